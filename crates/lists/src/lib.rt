@@ -1,0 +1,1 @@
+// Laws on lists, in specs/. There is no code here.

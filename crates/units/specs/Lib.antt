@@ -1,0 +1,5 @@
+-- The ranges of document 01's figures and settings, and the numbers of its replies. Definitions only.
+pub mod Ranges
+pub mod Figures
+pub mod Settings
+pub mod Replies
