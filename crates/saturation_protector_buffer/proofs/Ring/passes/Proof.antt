@@ -1,0 +1,15 @@
+-- `saturation_protector_buffer::Ring::passes` meets its contract. Assumes nothing.
+use borrow.Author.Needs.{needs}
+use Rattle.saturation_protector_buffer.specs.Ring.{passes}
+use Rattle.saturation_protector_buffer.proofs.Ring.passes.Statement.{statement}
+use Rattle.saturation_protector_buffer.proofs.Ring.passes.Tie as tie
+
+are-finite-requires : tie.Need-are-finite-requires
+are-finite-requires c κs = search needs
+
+returns : tie.Need-returns
+unfolding passes
+returns c = rw (c .are-finite .ensures)
+
+pub passes-spec : {M : Type 1} → statement M
+passes-spec = tie.close (tie.spec are-finite-requires returns)

@@ -1,0 +1,75 @@
+-- `saturation_protector_buffer::are_finite` meets its contract. The invariant: what was found so far, and the test of what is left, is the test of the whole.
+-- Assumes nothing.
+use mathlib.Core.Bool.{_&&_, and-assoc, and-true}
+use mathlib.Core.List.{List}
+use mathlib.Core.Path.{_≡_, sym, _∙_}
+use Prim.Native.Nat.{_≤_, _-_}
+use native.Mathlib.Omega.{arith}
+use lib.Ieee.{Float, nan}
+use lib.ListN.{length, drop}
+use borrow.Author.Needs.{needs}
+use Rattle.lists.specs.Loops.{scan, scan-done}
+use Rattle.saturation_protector_buffer.specs.Rings.{allFinite}
+use Rattle.saturation_protector_buffer.proofs.are_finite.Statement.{statement}
+use Rattle.saturation_protector_buffer.proofs.are_finite.Tie as tie
+
+abbrev Inv-loop : tie.InvT-loop
+Inv-loop stored ok₀ i₀ ok i = (i ≤ 4) × (ok && allFinite (drop i stored) ≡ allFinite stored)
+
+abbrev μ-loop : tie.MeasureT-loop
+μ-loop stored ok₀ i₀ ok i = 4 - i
+
+loop-holds : tie.Need-loop-holds Inv-loop μ-loop
+loop-holds c = search needs
+
+mul-is-finite : tie.Need-mul-is-finite Inv-loop μ-loop
+mul-is-finite c = search needs
+
+array-read-is-finite : tie.Need-array-read-is-finite Inv-loop μ-loop
+array-read-is-finite c = search needs
+
+is-finite-requires : tie.Need-is-finite-requires Inv-loop μ-loop
+is-finite-requires c κs = search needs
+
+add-i : tie.Need-add-i Inv-loop μ-loop
+add-i c = search needs
+
+loop-less : tie.Need-loop-less Inv-loop μ-loop
+loop-less c = search needs
+
+loop-again : tie.Need-loop-again Inv-loop μ-loop
+unfolding allFinite
+loop-again c =
+    let stored = c .before .before .before .args .t1 in
+    let loop = c .before .before .loop in
+    let ok = loop .ok in
+    let r = c .is-finite .result in
+    let long : length stored ≡ 4 = search needs in (
+      omega arith,
+      scan (λ (ys : List Float). ok && allFinite ys) (λ (ys : List Float). ok && r && allFinite ys) stored (loop .i) nan (omega arith)
+          (rw (c .is-finite .ensures) (sym (and-assoc ok _ _)))
+          ∙ loop .inv .1,
+    )
+
+returns : tie.Need-returns Inv-loop μ-loop
+unfolding allFinite
+returns c =
+    let stored = c .before .before .args .t1 in
+    let loop = c .before .loop in
+    let long : length stored ≡ 4 = search needs in
+    sym (and-true (loop .ok)) ∙ sym (scan-done (λ (ys : List Float). loop .ok && allFinite ys) stored (loop .i) (omega arith)) ∙ loop .inv .1
+
+pub are-finite-spec : {M : Type 1} → statement M
+are-finite-spec =
+    tie.close
+    (tie.spec
+    Inv-loop
+    μ-loop
+    loop-holds
+    mul-is-finite
+    array-read-is-finite
+    is-finite-requires
+    add-i
+    loop-less
+    loop-again
+    returns)

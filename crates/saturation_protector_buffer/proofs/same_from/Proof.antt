@@ -1,0 +1,112 @@
+-- `saturation_protector_buffer::same_from` meets its contract. The invariant: what was found so far, and the comparison of what is left, is the comparison
+-- of the whole. Assumes nothing.
+use mathlib.Core.Bool.{Bool, _&&_, and-assoc, and-true}
+use mathlib.Core.List.{List}
+use mathlib.Core.Path.{_≡_, sym, _∙_}
+use Prim.Native.Nat.{ℕ, _+_, _≤_, _<_, _-_}
+use native.Mathlib.Omega.{arith}
+use lib.Ieee.{Float, nan, eq}
+use lib.ListN.{length, drop, getD, drop-of-length-le}
+use borrow.Author.Needs.{needs}
+use Rattle.lists.specs.Stores.{next}
+use Rattle.saturation_protector_buffer.specs.Rings.{sameItems}
+use Rattle.saturation_protector_buffer.specs.Steps.{round}
+use Rattle.saturation_protector_buffer.specs.Laws.Places.{length-round, round-at}
+use Rattle.saturation_protector_buffer.proofs.same_from.Statement.{statement}
+use Rattle.saturation_protector_buffer.proofs.same_from.Tie as tie
+
+-- one place more: what is left of two lists begins with what stands at i
+one-more : (b : Bool) (xs ys : List Float) (i : ℕ) (x y : Float) → i < length xs → i < length ys → getD xs i nan ≡ x → getD ys i nan ≡ y
+    → b && eq x y && sameItems (drop (i + 1) xs) (drop (i + 1) ys) ≡ b && sameItems (drop i xs) (drop i ys)
+unfolding sameItems
+one-more b xs ys i x y h k p q =
+    and-assoc b (eq x y) (sameItems (drop (i + 1) xs) (drop (i + 1) ys))
+    ∙ sym (rw (next xs i nan h, next ys i nan k, p, q))
+
+-- nothing is left
+none-left : (b : Bool) (xs ys : List Float) (i : ℕ) → length xs ≤ i → length ys ≤ i → b && sameItems (drop i xs) (drop i ys) ≡ b
+unfolding sameItems
+none-left b xs ys i h k = rw (drop-of-length-le xs h, drop-of-length-le ys k) (and-true b)
+
+abbrev Inv-loop : tie.InvT-loop
+Inv-loop from other size xs ys same₀ i₀ same i =
+    (i ≤ size) × (same && sameItems (drop i (round xs from size)) (drop i (round ys other size)) ≡ sameItems (round xs from size) (round ys other size))
+
+abbrev μ-loop : tie.MeasureT-loop
+μ-loop from other size xs ys same₀ i₀ same i = size - i
+
+loop-holds : tie.Need-loop-holds Inv-loop μ-loop
+loop-holds c = search needs
+
+add-same : tie.Need-add-same Inv-loop μ-loop
+add-same c = search needs
+
+mul-same : tie.Need-mul-same Inv-loop μ-loop
+mul-same c = search needs
+
+array-read-same : tie.Need-array-read-same Inv-loop μ-loop
+array-read-same c = search needs
+
+add-same-2 : tie.Need-add-same-2 Inv-loop μ-loop
+add-same-2 c = search needs
+
+mul-same-2 : tie.Need-mul-same-2 Inv-loop μ-loop
+mul-same-2 c = search needs
+
+array-read-same-2 : tie.Need-array-read-same-2 Inv-loop μ-loop
+array-read-same-2 c = search needs
+
+add-i : tie.Need-add-i Inv-loop μ-loop
+add-i c = search needs
+
+loop-less : tie.Need-loop-less Inv-loop μ-loop
+loop-less c = search needs
+
+loop-again : tie.Need-loop-again Inv-loop μ-loop
+loop-again c =
+    let at = c .before .before .args in
+    let i = c .before .loop .i in
+    let xs = round (at .t1) (at .from) (at .size) in
+    let ys = round (at .t3) (at .other) (at .size) in
+    let pre = c .before .before .pre in
+    let one : length (at .t1) ≡ 4 = search needs in
+    let two : length (at .t3) ≡ 4 = search needs in
+    let long-xs : length xs ≡ at .size = length-round 4 (at .t1) (at .from) one (pre .0) (at .size) (pre .2) in
+    let long-ys : length ys ≡ at .size = length-round 4 (at .t3) (at .other) two (pre .1) (at .size) (pre .2) in (
+      omega arith,
+      one-more (c .before .loop .same) xs ys i _ _ (omega arith) (omega arith)
+          (round-at 4 (at .t1) (at .from) one (pre .0) (at .size) i nan (pre .2) (omega arith))
+          (round-at 4 (at .t3) (at .other) two (pre .1) (at .size) i nan (pre .2) (omega arith))
+          ∙ c .before .loop .inv .1,
+    )
+
+returns : tie.Need-returns Inv-loop μ-loop
+returns c =
+    let at = c .before .before .args in
+    let i = c .before .loop .i in
+    let xs = round (at .t1) (at .from) (at .size) in
+    let ys = round (at .t3) (at .other) (at .size) in
+    let pre = c .before .before .pre in
+    let one : length (at .t1) ≡ 4 = search needs in
+    let two : length (at .t3) ≡ 4 = search needs in
+    let long-xs : length xs ≡ at .size = length-round 4 (at .t1) (at .from) one (pre .0) (at .size) (pre .2) in
+    let long-ys : length ys ≡ at .size = length-round 4 (at .t3) (at .other) two (pre .1) (at .size) (pre .2) in
+    sym (none-left (c .before .loop .same) xs ys i (omega arith) (omega arith)) ∙ c .before .loop .inv .1
+
+pub same-from-spec : {M : Type 1} → statement M
+same-from-spec =
+    tie.close
+    (tie.spec
+    Inv-loop
+    μ-loop
+    loop-holds
+    add-same
+    mul-same
+    array-read-same
+    add-same-2
+    mul-same-2
+    array-read-same-2
+    add-i
+    loop-less
+    loop-again
+    returns)

@@ -1,0 +1,134 @@
+-- A new ring passes its test, and so does what every accepted call hands back: over any size n, and of the calls. Laws.
+-- Assumes nothing.
+use mathlib.Core.Path.{_≡_, refl, ap, _∙_}
+use mathlib.Core.Bool.{Bool, true, false, _&&_, cond}
+use mathlib.Core.List.{List, [], _∷_}
+use Prim.Native.Nat.{ℕ, zero, suc, _<_, _≤_}
+use native.Mathlib.Omega.{arith}
+use lib.Dec.{ltb, leb, lit<}
+use lib.ListN.{set, replicate}
+use lib.Ieee.{Float, binary32, ofBits}
+use lib.Ieee.Scale.{finite}
+use borrow.Author.Tests.{ltb-true, leb-true, lt-ltb, le-leb}
+use Rattle.units.specs.Replies.{done}
+use Rattle.saturation_protector_buffer.specs.Rings.{allFinite, fitsRing, after, more}
+use Rattle.saturation_protector_buffer.specs.Ring.{capacity, empty, passes, push, reset}
+use Rattle.saturation_protector_buffer.specs.Calls.{pushed, forgotten}
+use Rattle.saturation_protector_buffer.specs.Steps.{Within}
+use Rattle.saturation_protector_buffer.specs.declared.Ring.{Ring}
+use Rattle.saturation_protector_buffer.specs.Laws.Tests.{both, each, done-both}
+use Rattle.saturation_protector_buffer.specs.Laws.Pushes.{after-inside, more-most}
+
+-- what a ring of n that passes has
+pub record Fitting (n : ℕ) (stored : List Float) (place size : ℕ) : Type 0 where
+  pub inside : place < n
+  pub most : size ≤ n
+  pub numbers : allFinite stored ≡ true
+
+module _ (n : ℕ) (stored : List Float) (place size : ℕ) where
+  -- A ring passes exactly where its place and size lie in their ranges and everything stored is finite.
+  pub fitting : fitsRing n stored place size ≡ true → Fitting n stored place size
+  unfolding fitsRing
+  fitting h =
+      let all = both (ltb place n && leb size n) (allFinite stored) h in
+      let two = both (ltb place n) (leb size n) (all .0) in
+      record { inside = ltb-true place n (two .0); most = leb-true size n (two .1); numbers = all .1 }
+
+  pub fits : Fitting n stored place size → fitsRing n stored place size ≡ true
+  unfolding fitsRing
+  fits f = each (each (lt-ltb place n (f .inside)) (le-leb size n (f .most))) (f .numbers)
+
+-- A finite number stored anywhere leaves everything finite.
+pub finite-set : (xs : List Float) (i : ℕ) (v : Float) → allFinite xs ≡ true → finite v ≡ true → allFinite (set xs i v) ≡ true
+unfolding allFinite
+finite-set [] i v h f = refl
+finite-set (x ∷ xs) zero v h f = each f (both (finite x) (allFinite xs) h .1)
+finite-set (x ∷ xs) (suc i) v h f =
+    let two = both (finite x) (allFinite xs) h in
+    each (two .0) (finite-set xs i v (two .1) f)
+
+-- n times a finite number are finite.
+pub finite-replicate : (n : ℕ) (v : Float) → finite v ≡ true → allFinite (replicate n v) ≡ true
+unfolding allFinite
+finite-replicate zero v f = refl
+finite-replicate (suc n) v f = each f (finite-replicate n v f)
+
+module _ (n : ℕ) (stored : List Float) (place size : ℕ) where
+  -- New: a ring of n zeros, empty, passes.
+  pub new-fits : 0 < n → fitsRing n (replicate n (ofBits binary32 0x0000_0000)) 0 0 ≡ true
+  unfolding ofBits
+  new-fits h =
+      fits n (replicate n (ofBits binary32 0x0000_0000)) 0 0
+      (record { inside = h; most = omega arith; numbers = finite-replicate n (ofBits binary32 0x0000_0000) refl })
+
+  -- Push: of a finite number into a ring that passes.
+  pub push-fits : (v : Float) → fitsRing n stored place size ≡ true → finite v ≡ true → fitsRing n (set stored place v) (after n place) (more n size) ≡ true
+  push-fits v h f =
+      let was = fitting n stored place size h in
+      fits n (set stored place v) (after n place) (more n size)
+      (record {
+        inside = after-inside n place (was .inside);
+        most = more-most n size (was .most);
+        numbers = finite-set stored place v (was .numbers) f;
+      })
+
+  -- Reset: of a ring that passes.
+  pub reset-fits : fitsRing n stored place size ≡ true → fitsRing n stored 0 0 ≡ true
+  reset-fits h =
+      let was = fitting n stored place size h in
+      fits n stored 0 0 (record { inside = omega (arith, was .inside); most = omega arith; numbers = was .numbers })
+
+-- ---- the calls of the code's ring
+-- The code's new ring passes.
+pub empty-passes : passes empty ≡ true
+unfolding passes empty
+empty-passes = new-fits capacity [] 0 0 (lit< tt)
+
+-- What the private steps ask is known of a ring that passes.
+pub within : (r : Ring) → passes r ≡ true → Within r
+unfolding passes
+within r h =
+    let f = fitting capacity (r .stored) (r .place) (r .size) h in
+    record { place = f .inside; size = f .most }
+
+module _ (r : Ring) (h : passes r ≡ true) where
+  push-passes : (v : Float) → finite v ≡ true → passes (push r v) ≡ true
+  unfolding passes push
+  push-passes v f = push-fits capacity (r .stored) (r .place) (r .size) v h f
+
+  kept : (v : Float) (b : Bool) → finite v ≡ b → passes (cond b (push r v) r) ≡ true
+  kept v true f = push-passes v f
+  kept v false f = h
+
+  -- A ring that passes is handed back as one that passes, whatever is pushed.
+  pub pushed-passes : (v : Float) → passes (pushed r v .ring) ≡ true
+  unfolding pushed
+  pushed-passes v = ap (λ (b : Bool). passes (cond (b && finite v) (push r v) r)) h ∙ kept v (finite v) refl
+
+  -- A ring that passes does so after a reset.
+  pub reset-passes : passes (reset r) ≡ true
+  unfolding passes reset
+  reset-passes = reset-fits capacity (r .stored) (r .place) (r .size) h
+
+  -- And so as the call hands it back.
+  pub forgotten-passes : passes (forgotten r .ring) ≡ true
+  unfolding forgotten
+  forgotten-passes = rw h reset-passes
+
+-- An accepted push is one of a finite number into a ring that passes.
+pub push-accepted : (r : Ring) (v : Float) → pushed r v .reply ≡ done → (passes r ≡ true) × (finite v ≡ true)
+unfolding pushed
+push-accepted r v h = done-both (passes r) (finite v) h
+
+-- An accepted reset is one of a ring that passes.
+pub reset-accepted : (r : Ring) → forgotten r .reply ≡ done → passes r ≡ true
+unfolding forgotten
+reset-accepted r h = done-both (passes r) true h .0
+
+-- Every accepted push gives a ring that passes.
+pub accepted-push-passes : (r : Ring) (v : Float) → pushed r v .reply ≡ done → passes (pushed r v .ring) ≡ true
+accepted-push-passes r v h = pushed-passes r (push-accepted r v h .0) v
+
+-- Every accepted reset gives a ring that passes.
+pub accepted-reset-passes : (r : Ring) → forgotten r .reply ≡ done → passes (forgotten r .ring) ≡ true
+accepted-reset-passes r h = forgotten-passes r (reset-accepted r h)
