@@ -1,0 +1,5 @@
+-- What is true of the applier: accepted states pass again, the ramp's gains keep their range, and so do the samples.
+pub mod Inverse
+pub mod Again
+pub mod Ramp
+pub mod Sound
