@@ -2,21 +2,25 @@
 //!
 //!   oracle list questions                 the fixed list, as the program `replay` reads it
 //!   oracle list answers                   what the program must write
-//!   oracle compare [--seed N] --short|--long -- COMMAND..
+//!   oracle compare [--seed N] [--only PART] --short|--long -- COMMAND..
 //!                                         asks COMMAND and the Rust, and compares bit by bit
 //!
-//! A part that is added has a file of its own, with its questions and the Rust's answers, and its
-//! lines in `compare` and in list.rs.
+//! A part that is added has a file of its own, with its questions and the answers that are due, and
+//! its lines in `parts` and in list.rs.
 
+mod curve;
 mod drive;
+mod lines;
 mod list;
 mod random;
 mod ratio;
+mod ring;
 
+use drive::Part;
 use std::process::exit;
 
 const USAGE: &str = "usage: oracle list questions|answers
-       oracle compare [--seed N] --short|--long -- COMMAND..";
+       oracle compare [--seed N] [--only PART] --short|--long -- COMMAND..";
 
 fn usage() -> ! {
     eprintln!("{}", USAGE);
@@ -25,17 +29,22 @@ fn usage() -> ! {
 
 struct Wish {
     seed: u64,
+    only: Option<String>,
     long: bool,
     command: Vec<String>,
 }
 
 fn wish(words: &[String]) -> Wish {
-    let (mut seed, mut long) = (1, None);
+    let (mut seed, mut only, mut long) = (1, None, None);
     let mut rest = words.iter();
     while let Some(word) = rest.next() {
         match word.as_str() {
             "--seed" => match rest.next().and_then(|n| n.parse().ok()) {
                 Some(n) => seed = n,
+                None => usage(),
+            },
+            "--only" => match rest.next() {
+                Some(name) => only = Some(name.clone()),
                 None => usage(),
             },
             "--short" => long = Some(false),
@@ -46,44 +55,78 @@ fn wish(words: &[String]) -> Wish {
     }
     let command: Vec<String> = rest.cloned().collect();
     match long {
-        Some(long) if !command.is_empty() => Wish { seed, long, command },
+        Some(long) if !command.is_empty() => Wish {
+            seed,
+            only,
+            long,
+            command,
+        },
         _ => usage(),
     }
 }
 
-/// Compares every part, and returns how many answers differ.
-fn compare(wish: &Wish) -> usize {
-    let ratios = if wish.long { ratio::Ratios::long(wish.seed) } else { ratio::Ratios::short(wish.seed) };
-    println!(
-        "ratio, {} run, seed {}, {}: {} multiples, {} near boundaries, {} random from 0 to 51, {} random bit patterns",
-        if wish.long { "long" } else { "short" },
-        wish.seed,
-        std::env::consts::ARCH,
-        ratios.every,
-        ratios.near,
-        ratios.random,
-        ratios.anywhere
-    );
-    let wrong = match drive::differences(&wish.command, &ratios) {
-        Ok(n) => n,
+/// The parts, in document 01's order.
+fn parts(seed: u64, long: bool) -> Vec<Box<dyn Part>> {
+    vec![
+        Box::new(ratio::Ratios::new(seed, long)),
+        Box::new(ring::Rings::new(seed, long)),
+        Box::new(curve::Curves::new(seed, long)),
+    ]
+}
+
+/// Compares one part, and returns how many answers differ.
+fn compare_part(wish: &Wish, part: &mut dyn Part) -> usize {
+    let length = if wish.long { "long" } else { "short" };
+    println!("{}, {} run, seed {}, {}:", part.name(), length, wish.seed, std::env::consts::ARCH);
+    let found = match drive::differences(&wish.command, part) {
+        Ok(found) => found,
         Err(why) => {
             println!("  {}", why);
-            1
+            return 1;
         }
     };
-    println!("  against the ruled Rust: {} answers compared, {} differ", drive::Part::count(&ratios), wrong);
-    ratios.print_departure();
-    wrong
+    let kinds: Vec<String> = part.kinds().iter().map(|(what, n)| format!("{} {}", n, what)).collect();
+    println!("  {}", kinds.join(", "));
+    println!("  against the ruled Rust: {} answers compared, {} differ", found.compared, found.wrong);
+    for why in part.unlike().iter().take(5) {
+        println!("  the Rust and the paper by hand do not agree: {}", why);
+    }
+    for line in part.notes() {
+        println!("  {}", line);
+    }
+    // A part that asks nothing has compared nothing.
+    found.wrong + part.unlike().len() + (found.compared == 0) as usize
+}
+
+fn compare(wish: &Wish) -> usize {
+    let mut all = parts(wish.seed, wish.long);
+    if let Some(name) = &wish.only {
+        all.retain(|part| part.name() == name);
+        if all.is_empty() {
+            eprintln!("oracle: no part {}", name);
+            exit(2);
+        }
+    }
+    all.iter_mut().map(|part| compare_part(wish, part.as_mut())).sum()
 }
 
 fn main() {
     let words: Vec<String> = std::env::args().skip(1).collect();
     match words.first().map(String::as_str) {
-        Some("list") => match words.get(1).map(String::as_str) {
-            Some("questions") => print!("{}", list::questions()),
-            Some("answers") => print!("{}", list::answers()),
-            _ => usage(),
-        },
+        Some("list") => {
+            let text = match words.get(1).map(String::as_str) {
+                Some("questions") => list::questions(),
+                Some("answers") => list::answers(),
+                _ => usage(),
+            };
+            match text {
+                Ok(text) => print!("{}", text),
+                Err(why) => {
+                    eprintln!("oracle: the Rust and the paper by hand do not agree: {}", why);
+                    exit(1);
+                }
+            }
+        }
         Some("compare") => {
             let wrong = compare(&wish(&words[1..]));
             exit(if wrong == 0 { 0 } else { 1 });

@@ -5,19 +5,25 @@ cd "$(dirname "$0")/../.." || exit 1
 . tests/check.bash
 
 # The oracle's exit status where what the program answers goes through a filter first.
-through() { # FILTER
-    target/oracle/oracle compare --short -- bash -c "tests/run-program replay | $1" >/dev/null 2>&1
+through() { # PART FILTER
+    target/oracle/oracle compare --only "$1" --short -- bash -c "tests/run-program replay | $2" >/dev/null 2>&1
     echo $?
 }
 
-same "the comparison finds nothing where nothing is altered" 0 "$(through cat)"
-same "the comparison finds one digit that is altered" 1 "$(through "sed '30000{s/0\$/1/;t;s/.\$/0/}'")"
-same "the comparison finds a refusal that is altered" 1 "$(through "sed '0,/^2 /s/^2 /0 /'")"
-same "the comparison finds an answer that is missing at the end" 1 "$(through "sed '\$d'")"
-same "the comparison finds an answer that is missing in the middle" 1 "$(through 'sed 7d')"
-same "the comparison finds an answer too many" 1 "$(through "sed '\$p'")"
-same "the comparison finds that nothing is answered" 1 "$(through 'cat >/dev/null')"
-same "the comparison finds that the program fails" 1 "$(through 'cat; exit 3')"
+for part in ratio ring curve; do
+    same "$part: the comparison finds nothing where nothing is altered" 0 "$(through "$part" cat)"
+    same "$part: it finds one digit that is altered" 1 "$(through "$part" "sed '15000{s/0\$/1/;t;s/.\$/0/}'")"
+    same "$part: it finds a refusal that is altered" 1 "$(through "$part" "sed '0,/^00000002 /s/^00000002 /00000000 /'")"
+    same "$part: it finds an answer that is missing at the end" 1 "$(through "$part" "sed '\$d'")"
+    same "$part: it finds an answer that is missing in the middle" 1 "$(through "$part" 'sed 7d')"
+    same "$part: it finds an answer too many" 1 "$(through "$part" "sed '\$p'")"
+done
+same "the comparison finds that nothing is answered" 1 "$(through ratio 'cat >/dev/null')"
+same "the comparison finds that the program fails" 1 "$(through ratio 'cat; exit 3')"
+same "the comparison finds that the program takes no question" 1 "$(through curve 'true')"
+same "the comparison finds a count that is altered" 1 "$(through curve "sed '9000s/^\(.\{35\}\)\(.\)/\1f/'")"
+same "the comparison finds a stored peak that is altered" 1 "$(through ring "sed '9000s/^\(.\{60\}\)...../\1fffff/'")"
+same "a part that there is not is refused" 2 "$(through nothing cat)"
 
 # A source that is not the one that the oracle was written for is refused, and not compiled as it is.
 room=$(mktemp -d)

@@ -1,32 +1,51 @@
 // Answers questions, a line for each, on standard input, so that the answers of these crates can be
-// held to the Rust's. It compares nothing itself. src/questions.rt says what a question is.
+// held to the Rust's. It compares nothing itself. src/desk.rt says what a question is.
 //
 // A line ends with a line feed. What stands after the last line feed is cut, and is no question.
 // The memory is fixed: input of any length goes through, and a line of any length.
 
-mod hex;
-mod questions;
-mod text;
+mod curve;
+mod desk;
+mod lines;
+mod numbers;
+mod ratio;
+mod ring;
 
-ghost use Prim.Native.Nat.{_≤_};
-ghost use lib.ListN.{length};
-ghost use Rattle.replay.specs.Place.{Fits};
-use questions::LONGEST_ANSWER;
+ghost use Rattle.io.specs.Counts.{Counts};
+use desk::Desk;
+use desk::Step;
+
+// A line of 3,900 figures with its name. A longer one is no question.
+const LONGEST_LINE: usize = 35200;
+
+// So many bytes of answers may wait, so that one more answer fits behind them into 65,536 bytes.
+const ENOUGH: usize = 30000;
 
 // How far the run is: how many bytes of the line that is being read are kept, how many bytes of
-// answers wait to be written, and whether there may be more to read.
-struct Place {
+// answers wait to be written, whether there may be more to read, and the states.
+struct Run {
     kept: usize,
     waiting: usize,
     more: bool,
+    desk: Desk,
 }
 
-// Keeps one more byte of a line, where there is room: a line that fills the room is too long to be a
-// question, whatever follows.
-fn keep(line: &mut [u8], kept: usize, byte: u8) -> usize
-    requires { ⌜ kept ≤ length (now line) ⌝ }
-    ensures { λ r. ⌜ r ≤ length (now (line .entry)) ⌝ }
+// As many bytes of a buffer as asked, and never more than it has.
+fn within(n: usize, buffer: &[u8]) -> usize
+    ensures { λ r. ⌜ Counts r (now (buffer .entry)) ⌝ }
 {
+    if n <= buffer.len() { n } else { buffer.len() }
+}
+
+// Writes the first bytes of a buffer.
+fn write(out: &[u8], n: usize) {
+    let m = within(n, out);
+    io::write_all(libc::STDOUT_FILENO, &out[..m]);
+}
+
+// Keeps one more byte of a line, where there is room, and answers how many are kept then: a line that
+// fills the room is too long to be a question, whatever follows.
+fn keep(line: &mut [u8], kept: usize, byte: u8) -> usize {
     if kept < line.len() {
         line[kept] = byte;
         kept + 1
@@ -35,112 +54,89 @@ fn keep(line: &mut [u8], kept: usize, byte: u8) -> usize
     }
 }
 
-// Puts the answer to a line behind those that wait, and answers how many bytes wait then. Where
-// there might be no room, those that wait are written first.
-fn reply(line: &[u8], out: &mut [u8], waiting: usize) -> usize
-    requires { ⌜ (waiting ≤ length (now out)) × (11 ≤ length (now out)) ⌝ }
-    ensures { λ r. ⌜ r ≤ length (now (out .entry)) ⌝ }
-{
-    if out.len() - waiting < LONGEST_ANSWER {
-        io::write_all(libc::STDOUT_FILENO, &out[..waiting]);
-        questions::answer(line, out, 0)
+// The place for one more answer, behind those that wait. Where it might not fit there, those that wait
+// are written first.
+fn place(out: &[u8], waiting: usize) -> usize {
+    if waiting < ENOUGH {
+        waiting
     } else {
-        questions::answer(line, out, waiting)
+        write(out, waiting);
+        0
     }
 }
 
-// Takes one byte that was read: a line feed ends the line, which is answered, and any other byte is
-// kept.
-fn take_byte(byte: u8, line: &mut [u8], out: &mut [u8], place: Place) -> Place
-    requires { ⌜ Fits place (length (now line)) (length (now out)) ⌝ }
-    ensures { λ r. ⌜ Fits r (length (now (line .entry))) (length (now (out .entry))) ⌝ }
-{
-    let kept = place.kept;
-    if byte == b'\n' {
-        let waiting = reply(&line[..kept], out, place.waiting);
-        Place {
-            kept: 0,
-            waiting,
-            more: true,
-        }
-    } else {
-        let longer = keep(line, kept, byte);
-        Place {
-            kept: longer,
-            waiting: place.waiting,
-            more: true,
-        }
-    }
+// The answer to the line that is kept.
+fn reply(desk: Desk, line: &[u8], kept: usize) -> Step {
+    let n = within(kept, line);
+    desk::answer(desk, &line[..n])
 }
 
-// Takes the bytes that were read, one after the other.
-fn feed(input: &[u8], line: &mut [u8], out: &mut [u8], place: Place) -> Place
-    requires { ⌜ Fits place (length (now line)) (length (now out)) ⌝ }
-    ensures { λ r. ⌜ Fits r (length (now (line .entry))) (length (now (out .entry))) ⌝ }
-{
-    let mut next = place;
+// Takes the bytes that were read, one after the other: a line feed ends the line, which is answered,
+// and any other byte is kept. There may be more to read where some came.
+fn feed(input: &[u8], line: &mut [u8], out: &mut [u8], run: Run) -> Run {
+    let mut kept = run.kept;
+    let mut waiting = run.waiting;
+    let mut desk = run.desk;
     let mut i = 0;
     while i < input.len() {
-        next = take_byte(input[i], line, out, next);
+        let byte = input[i];
         i += 1;
+        if byte == b'\n' {
+            let step = reply(desk, line, kept);
+            desk = step.desk;
+            let answer = step.answer;
+            waiting = lines::put(out, place(out, waiting), answer);
+            kept = 0;
+        } else {
+            kept = keep(line, kept, byte);
+        }
     }
-    next
+    Run {
+        kept,
+        waiting,
+        more: 0 < input.len(),
+        desk,
+    }
 }
 
-// Reads once, and goes over what came.
-fn turn(line: &mut [u8], out: &mut [u8], place: Place) -> Place
-    requires { ⌜ Fits place (length (now line)) (length (now out)) ⌝ }
-    ensures { λ r. ⌜ Fits r (length (now (line .entry))) (length (now (out .entry))) ⌝ }
-{
+// Reads once, and goes over what came: nothing, at the end of the input and where a read fails.
+fn turn(line: &mut [u8], out: &mut [u8], run: Run) -> Run {
     let mut input = io::large_buffer();
     let got = libc::read(libc::STDIN_FILENO, &mut input);
-    if got <= 0 {
-        return Place {
-            kept: place.kept,
-            waiting: place.waiting,
-            more: false,
-        };
-    }
     let n = io::count(got, &input);
-    feed(&input[..n], line, out, place)
+    feed(&input[..n], line, out, run)
 }
 
 // Reads to the end. A proved loop has to end, and nothing says that the input does: so the loop
 // counts its turns down, from a number that no run uses up.
-fn read_all(line: &mut [u8], out: &mut [u8]) -> Place
-    requires { ⌜ 11 ≤ length (now out) ⌝ }
-    ensures { λ r. ⌜ Fits r (length (now (line .entry))) (length (now (out .entry))) ⌝ }
-{
-    let mut place = Place {
+fn read_all(line: &mut [u8], out: &mut [u8]) -> Run {
+    let mut run = Run {
         kept: 0,
         waiting: 0,
         more: true,
+        desk: Desk::new(),
     };
     let mut turns = u64::MAX;
-    while turns > 0 && place.more {
-        place = turn(line, out, place);
+    while turns > 0 && run.more {
+        run = turn(line, out, run);
         turns -= 1;
     }
-    place
+    run
 }
 
-// Writes the answers that still wait. A line that has begun and was cut is no question: it is
-// answered as an empty line is.
-fn finish(out: &mut [u8], place: Place)
-    requires { ⌜ (place .waiting ≤ length (now out)) × (11 ≤ length (now out)) ⌝ }
-{
-    let waiting = place.waiting;
-    if 0 < place.kept {
-        let last = reply(b"", out, waiting);
-        io::write_all(libc::STDOUT_FILENO, &out[..last]);
+// Writes the answers that still wait. A line that has begun and was cut is no question.
+fn finish(out: &mut [u8], kept: usize, waiting: usize) {
+    if 0 < kept {
+        let last = lines::end(out, waiting, waiting);
+        write(out, last);
     } else {
-        io::write_all(libc::STDOUT_FILENO, &out[..waiting]);
+        write(out, waiting);
     }
 }
 
 fn main() {
-    let mut line = [0u8; 64];
+    let mut line = [0u8; LONGEST_LINE];
     let mut out = io::large_buffer();
-    let place = read_all(&mut line, &mut out);
-    finish(&mut out, place);
+    let run = read_all(&mut line, &mut out);
+    finish(&mut out, run.kept, run.waiting);
 }

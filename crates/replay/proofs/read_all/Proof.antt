@@ -1,18 +1,18 @@
--- `replay::read_all` is safe and ends, and the run stays within its buffers. The measure is the number of turns that are left.
--- Assumes nothing.
+-- `replay::read_all` is safe and ends. The measure is the number of turns that are left. Assumes nothing.
 use mathlib.Core.Path.{_≡_}
 use lib.ListN.{length}
-use Rattle.replay.specs.Place.{Fits}
 use borrow.Author.Needs.{needs}
 use Rattle.replay.proofs.read_all.Statement.{statement}
 use Rattle.replay.proofs.read_all.Tie as tie
 
 abbrev Inv-loop : tie.InvT-loop
-Inv-loop line₀ out₀ place₀ turns₀ line out place turns =
-    (length line ≡ length line₀) × (length out ≡ length out₀) × Fits place (length line₀) (length out₀)
+Inv-loop line₀ out₀ run₀ turns₀ line out run turns = (length line ≡ length line₀) × (length out ≡ length out₀)
 
 abbrev μ-loop : tie.MeasureT-loop
-μ-loop line₀ out₀ place₀ turns₀ line out place turns = turns
+μ-loop line₀ out₀ run₀ turns₀ line out run turns = turns
+
+new-requires : tie.Need-new-requires Inv-loop μ-loop
+new-requires c κs = search needs
 
 loop-holds : tie.Need-loop-holds Inv-loop μ-loop
 loop-holds c = search needs
@@ -53,6 +53,7 @@ read-all-spec =
     (tie.spec
     Inv-loop
     μ-loop
+    new-requires
     loop-holds
     turn-requires
     sub-turns

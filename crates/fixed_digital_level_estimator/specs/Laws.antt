@@ -1,0 +1,5 @@
+-- What is true of the definitions beside this file.
+pub mod Lengths
+pub mod Accepted
+pub mod Range
+pub mod States

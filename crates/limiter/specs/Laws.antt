@@ -1,0 +1,6 @@
+-- What is true of the definitions beside this file.
+pub mod Taking
+pub mod Numbers
+pub mod FullScale
+pub mod Taken
+pub mod States

@@ -1,0 +1,155 @@
+// A line of a question taken apart, and a line of an answer put together. Every function takes any
+// place: one that lies outside has no byte, no figure, and nothing is put there.
+
+use std::num::wrapping_add_u32;
+use std::num::wrapping_add_usize;
+
+// What a line says: whether it is a name and then figures, where the name ends, where the first dot
+// of the name is (where there is none, its end), and how many figures follow.
+pub struct Asked {
+    pub ok: bool,
+    pub part: usize,
+    pub name: usize,
+    pub count: usize,
+}
+
+// The figures of an answer: the first so many of them. No figure is no answer.
+pub struct Answer {
+    pub count: usize,
+    pub figures: [u32; 16],
+}
+
+// The byte at a place of a line, and 0 outside.
+fn byte_at(line: &[u8], at: usize) -> u8 {
+    if at < line.len() { line[at] } else { 0 }
+}
+
+// The place of the first such byte, and the line's end where there is none.
+fn first(line: &[u8], byte: u8) -> usize {
+    let mut i = 0;
+    while i < line.len() {
+        if line[i] == byte {
+            return i;
+        }
+        i += 1;
+    }
+    i
+}
+
+fn smaller(a: usize, b: usize) -> usize {
+    if b < a { b } else { a }
+}
+
+// How many figures follow a place, each with one space before it, and whether nothing else does.
+fn counted(line: &[u8], part: usize, name: usize) -> Asked {
+    let mut ok = true;
+    let mut count: usize = 0;
+    let mut at = name;
+    while at < line.len() {
+        let figure = words::read(line, at + 1);
+        ok = ok & (line[at] == b' ') & figure.ok;
+        count = wrapping_add_usize(count, 1);
+        at = if line.len() - at < 9 {
+            line.len()
+        } else {
+            at + 9
+        };
+    }
+    Asked {
+        ok,
+        part,
+        name,
+        count,
+    }
+}
+
+// Takes a line apart.
+pub fn split(line: &[u8]) -> Asked {
+    let name = first(line, b' ');
+    let dot = first(line, b'.');
+    counted(line, smaller(dot, name), name)
+}
+
+// The number of the word that stands in a line from one place to another, among the words of a list,
+// which are counted from 0 and have one space after each. Where it is none of them, how many there are.
+pub fn number_of(line: &[u8], from: usize, to: usize, list: &[u8]) -> u32 {
+    let mut n: u32 = 0;
+    let mut at = from;
+    let mut same = true;
+    let mut i = 0;
+    while i < list.len() {
+        let byte = list[i];
+        i += 1;
+        if byte == b' ' {
+            if same & (at == to) {
+                return n;
+            }
+            n = wrapping_add_u32(n, 1);
+            at = from;
+            same = true;
+        } else {
+            same = same & (byte_at(line, at) == byte);
+            at = wrapping_add_usize(at, 1);
+        }
+    }
+    n
+}
+
+// The first figures of a line whose name ends at a place.
+pub fn figures(line: &[u8], name: usize) -> [u32; 12] {
+    let mut all = [0u32; 12];
+    let mut i: usize = 0;
+    while i < 12 {
+        let figure = words::read(line, wrapping_add_usize(name, i * 9 + 1));
+        all[i] = figure.bits;
+        i += 1;
+    }
+    all
+}
+
+// Stores a byte at a place.
+fn store(out: &mut [u8], at: usize, byte: u8) {
+    if at < out.len() {
+        out[at] = byte;
+    }
+}
+
+// Puts an answer at a place of a buffer, with its line feed, and answers the place after it. No
+// figure is the answer to what is no question: a question mark.
+pub fn put(out: &mut [u8], at: usize, answer: Answer) -> usize {
+    let figures = answer.figures;
+    let count = answer.count;
+    let mut to = at;
+    let mut i: usize = 0;
+    while i < 16 {
+        if count <= i {
+            return end(out, at, to);
+        }
+        words::put(out, to, figures[i]);
+        store(out, wrapping_add_usize(to, 8), b' ');
+        to = wrapping_add_usize(to, 9);
+        i += 1;
+    }
+    end(out, at, to)
+}
+
+// Ends the answer that stands from one place to another: the last space becomes a line feed. Where
+// there is no answer, a question mark is put.
+pub fn end(out: &mut [u8], from: usize, to: usize) -> usize {
+    if from < to {
+        store(out, to - 1, b'\n');
+        to
+    } else {
+        store(out, from, b'?');
+        store(out, wrapping_add_usize(from, 1), b'\n');
+        wrapping_add_usize(from, 2)
+    }
+}
+
+// No answer.
+pub fn none() -> Answer {
+    Answer {
+        count: 0,
+        figures: [0u32; 16],
+    }
+}

@@ -1,0 +1,28 @@
+-- `words::bits_of` meets its contract: a float that equals itself is no NaN. Assumes nothing.
+use mathlib.Core.Path.{_≡_, sym, subst}
+use mathlib.Core.Bool.{true, not}
+use lib.Dec.{T}
+use lib.Ieee.{Float, nan, inf, fin, eq, isNan}
+use Rattle.words.specs.Floats.{patternOf}
+use Rattle.words.proofs.bits_of.Statement.{statement}
+use Rattle.words.proofs.bits_of.Tie as tie
+
+no-nan : (x : Float) → eq x x ≡ true → T (not (isNan x))
+unfolding eq isNan
+no-nan nan h = subst T (sym h) tt
+no-nan (inf s) h = tt
+no-nan (fin s m e) h = tt
+
+float-to-bits-result : tie.Need-float-to-bits-result
+float-to-bits-result c = no-nan (c .before .args .x) (c .if1 .taken)
+
+returns : tie.Need-returns
+unfolding patternOf
+returns c = rw (c .if1 .taken)
+
+returns-2 : tie.Need-returns-2
+unfolding patternOf
+returns-2 c = rw (c .if1 .left)
+
+pub bits-of-spec : {M : Type 1} → statement M
+bits-of-spec = tie.close (tie.spec float-to-bits-result returns returns-2)

@@ -1,0 +1,45 @@
+-- `words::spelled` meets its contract: each digit is what `glyph` ensures. Assumes nothing.
+use borrow.Author.Needs.{needs}
+use Rattle.words.proofs.spelled.Statement.{statement}
+use Rattle.words.proofs.spelled.Tie as tie
+
+glyph-requires : tie.Need-glyph-requires
+glyph-requires c κs = search needs
+
+glyph-requires-2 : tie.Need-glyph-requires-2
+glyph-requires-2 c κs = search needs
+
+glyph-requires-3 : tie.Need-glyph-requires-3
+glyph-requires-3 c κs = search needs
+
+glyph-requires-4 : tie.Need-glyph-requires-4
+glyph-requires-4 c κs = search needs
+
+glyph-requires-5 : tie.Need-glyph-requires-5
+glyph-requires-5 c κs = search needs
+
+glyph-requires-6 : tie.Need-glyph-requires-6
+glyph-requires-6 c κs = search needs
+
+glyph-requires-7 : tie.Need-glyph-requires-7
+glyph-requires-7 c κs = search needs
+
+glyph-requires-8 : tie.Need-glyph-requires-8
+glyph-requires-8 c κs = search needs
+
+returns : tie.Need-returns
+returns c = cc
+
+pub spelled-spec : {M : Type 1} → statement M
+spelled-spec =
+    tie.close
+    (tie.spec
+    glyph-requires
+    glyph-requires-2
+    glyph-requires-3
+    glyph-requires-4
+    glyph-requires-5
+    glyph-requires-6
+    glyph-requires-7
+    glyph-requires-8
+    returns)

@@ -1,0 +1,45 @@
+//! The protocol of the program `replay`: a question is a name and then figures, an answer is figures,
+//! the first of them the reply's number. A figure is eight lower-case hexadecimal digits.
+
+/// Document 01's numbers of replies.
+pub const DONE: u32 = 0;
+pub const FIGURE: u32 = 2;
+pub const SETTING: u32 = 4;
+
+/// Figures with one space between them.
+pub fn answer(figures: &[u32]) -> String {
+    let all: Vec<String> = figures.iter().map(|f| format!("{:08x}", f)).collect();
+    all.join(" ")
+}
+
+/// A name and figures.
+pub fn question(name: &str, figures: &[u32]) -> String {
+    let mut line = name.to_string();
+    for figure in figures {
+        line.push_str(&format!(" {:08x}", figure));
+    }
+    line
+}
+
+/// The bits of a float. The program has one NaN.
+pub fn bits(x: f32) -> u32 {
+    if x.is_nan() {
+        0x7fc0_0000
+    } else {
+        x.to_bits()
+    }
+}
+
+/// A number of 64 bits, the higher half first.
+pub fn halves(n: u64) -> [u32; 2] {
+    [(n >> 32) as u32, n as u32]
+}
+
+/// The bits within `reach` floats of a positive float, on both sides. Below 0 the floats go on with
+/// the sign set.
+pub fn near(x: f32, reach: i64) -> Vec<u32> {
+    let middle = x.to_bits() as i64;
+    (middle - reach..=middle + reach)
+        .map(|at| if at >= 0 { at as u32 } else { 0x8000_0000 + (-at - 1) as u32 })
+        .collect()
+}
