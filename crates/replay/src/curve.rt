@@ -135,7 +135,7 @@ fn said(reply: u32, result: u32, curve: Curve, count: usize) -> Answer {
     }
 }
 
-pub fn answer(mut desk: Desk, call: Call) -> Step {
+pub(crate) fn answer(mut desk: Desk, call: Call) -> Step {
     let curve = desk.curve;
     let figures = call.figures;
     let word = word_of(call.word, call.count);

@@ -48,7 +48,7 @@ const CURVE: u32 = 2;
 const NONE: u32 = 3;
 
 impl Desk {
-    pub fn new() -> Desk {
+    pub(crate) fn new() -> Desk {
         let ring = Ring::new();
         let aside = Ring::new();
         let curve = Curve::new();
@@ -101,6 +101,6 @@ fn of_part(desk: Desk, call: Call) -> Step {
 }
 
 // The answer to a line.
-pub fn answer(desk: Desk, line: &[u8]) -> Step {
+pub(crate) fn answer(desk: Desk, line: &[u8]) -> Step {
     of_part(desk, call_of(line))
 }

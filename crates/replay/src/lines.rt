@@ -64,7 +64,7 @@ fn counted(line: &[u8], part: usize, name: usize) -> Asked {
 }
 
 // Takes a line apart.
-pub fn split(line: &[u8]) -> Asked {
+pub(crate) fn split(line: &[u8]) -> Asked {
     let name = first(line, b' ');
     let dot = first(line, b'.');
     counted(line, smaller(dot, name), name)
@@ -72,7 +72,7 @@ pub fn split(line: &[u8]) -> Asked {
 
 // The number of the word that stands in a line from one place to another, among the words of a list,
 // which are counted from 0 and have one space after each. Where it is none of them, how many there are.
-pub fn number_of(line: &[u8], from: usize, to: usize, list: &[u8]) -> u32 {
+pub(crate) fn number_of(line: &[u8], from: usize, to: usize, list: &[u8]) -> u32 {
     let mut n: u32 = 0;
     let mut at = from;
     let mut same = true;
@@ -96,7 +96,7 @@ pub fn number_of(line: &[u8], from: usize, to: usize, list: &[u8]) -> u32 {
 }
 
 // The first figures of a line whose name ends at a place.
-pub fn figures(line: &[u8], name: usize) -> [u32; 12] {
+pub(crate) fn figures(line: &[u8], name: usize) -> [u32; 12] {
     let mut all = [0u32; 12];
     let mut i: usize = 0;
     while i < 12 {
@@ -116,7 +116,7 @@ fn store(out: &mut [u8], at: usize, byte: u8) {
 
 // Puts an answer at a place of a buffer, with its line feed, and answers the place after it. No
 // figure is the answer to what is no question: a question mark.
-pub fn put(out: &mut [u8], at: usize, answer: Answer) -> usize {
+pub(crate) fn put(out: &mut [u8], at: usize, answer: Answer) -> usize {
     let figures = answer.figures;
     let count = answer.count;
     let mut to = at;
@@ -135,7 +135,7 @@ pub fn put(out: &mut [u8], at: usize, answer: Answer) -> usize {
 
 // Ends the answer that stands from one place to another: the last space becomes a line feed. Where
 // there is no answer, a question mark is put.
-pub fn end(out: &mut [u8], from: usize, to: usize) -> usize {
+pub(crate) fn end(out: &mut [u8], from: usize, to: usize) -> usize {
     if from < to {
         store(out, to - 1, b'\n');
         to
@@ -147,7 +147,7 @@ pub fn end(out: &mut [u8], from: usize, to: usize) -> usize {
 }
 
 // No answer.
-pub fn none() -> Answer {
+pub(crate) fn none() -> Answer {
     Answer {
         count: 0,
         figures: [0u32; 16],

@@ -1,22 +1,22 @@
 // Numbers of 64 bits as two figures, the higher half first, a bool as one, and a choice.
 
 // The lower half of a number.
-pub fn low(n: u64) -> u32 {
+pub(crate) fn low(n: u64) -> u32 {
     (n % 4294967296) as u32
 }
 
 // The higher half of a number.
-pub fn high(n: u64) -> u32 {
+pub(crate) fn high(n: u64) -> u32 {
     (n / 4294967296) as u32
 }
 
 // The number of two halves.
-pub fn joined(high: u32, low: u32) -> u64 {
+pub(crate) fn joined(high: u32, low: u32) -> u64 {
     high as u64 * 4294967296 + low as u64
 }
 
 // The bits of a signed number.
-pub fn unsigned(n: i64) -> u64 {
+pub(crate) fn unsigned(n: i64) -> u64 {
     if 0 <= n {
         n as u64
     } else {
@@ -25,7 +25,7 @@ pub fn unsigned(n: i64) -> u64 {
 }
 
 // The signed number of bits.
-pub fn signed(n: u64) -> i64 {
+pub(crate) fn signed(n: u64) -> i64 {
     if n <= 9223372036854775807 {
         n as i64
     } else {
@@ -34,11 +34,11 @@ pub fn signed(n: u64) -> i64 {
 }
 
 // A bool: 1 is yes.
-pub fn flag(b: bool) -> u32 {
+pub(crate) fn flag(b: bool) -> u32 {
     if b { 1 } else { 0 }
 }
 
 // One of two.
-pub fn pick(b: bool, x: usize, y: usize) -> usize {
+pub(crate) fn pick(b: bool, x: usize, y: usize) -> usize {
     if b { x } else { y }
 }

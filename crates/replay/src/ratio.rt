@@ -7,7 +7,7 @@ use crate::lines;
 use crate::lines::Answer;
 use units::kinds::Db;
 
-pub fn answer(call: Call) -> Answer {
+pub(crate) fn answer(call: Call) -> Answer {
     let figures = call.figures;
     if (call.word == 0) & (call.count == 1) {
         let a = decibels::ratio(Db(words::float_of(figures[0])));

@@ -181,7 +181,7 @@ fn said(told: Told, ring: Ring, count: usize) -> Answer {
     }
 }
 
-pub fn answer(mut desk: Desk, call: Call) -> Step {
+pub(crate) fn answer(mut desk: Desk, call: Call) -> Step {
     let ring = desk.ring;
     let aside = desk.aside;
     let figures = call.figures;

@@ -110,8 +110,11 @@ fn glyph(n: u32) -> u8
     if n < 10 { 48 + n as u8 } else { 87 + n as u8 }
 }
 
+// Eight digits.
+pub type Spelling = [u8; 8];
+
 // The eight digits of a number.
-pub fn spelled(bits: u32) -> [u8; 8]
+pub fn spelled(bits: u32) -> Spelling
     ensures { λ r. ⌜ r ≡ digits 16 8 bits ⌝ }
 {
     let g = bits / 16;
