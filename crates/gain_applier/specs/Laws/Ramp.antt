@@ -192,36 +192,26 @@ module _ (n : ℕ) (some : 1 ≤ n) (few : n ≤ 480) (m : ℕ) (low : m ≤ 512
         under p n l i c k q r z m u e (inl j) h x f g a b w s = omega arith
         under p n l i c k q r z m u e (inr j) h x f g a b w s = omega arith
 
--- With factors from 0 to 355 every gain of the ramp over a frame's samples is a number of magnitude at most 512.
+-- With factors from 0 to b, which is at most 512, every gain of the ramp over a frame's samples is a number of magnitude at most c, for any c above b.
+ramp-below : (b c : ℕ) → b ≤ 512 → b + 1 ≤ c → (n : ℕ) → isSamples n ≡ true → (last current : Float) → UpTo (b * U) last → UpTo (b * U) current → (k : ℕ) → k ≤ n
+    → Within (c * U) (added k last (stepOf last current (inverseOf (pos n))))
+ramp-below b c i j n s last current l r k h =
+    let f = samples-facts n s in
+    let w = ramp-close n (omega arith) (f .most) (b * U) (mul-le-mul-right U i) last current l r k h in
+    record { number = w .number; plus = looser (P g) U (mul-le-mul-right U j) (w .plus); minus = looser (N g) U (mul-le-mul-right U j) (w .minus) }
+  where
+    g : Float
+    g = added k last (stepOf last current (inverseOf (pos n)))
+
+    looser : (a u : ℕ) → (b + 1) * u ≤ c * u → a ≤ b * u + u → a ≤ c * u
+    looser a u z h = omega (arith, z, h)
+
+-- With factors from 0 to 355 that magnitude is at most 512.
 pub ramp-within : (n : ℕ) → isSamples n ≡ true → (last current : Float) → UpTo (355 * U) last → UpTo (355 * U) current → (k : ℕ) → k ≤ n
     → Within (512 * U) (added k last (stepOf last current (inverseOf (pos n))))
-ramp-within n s last current l c k h =
-    let f = samples-facts n s in
-    let w = ramp-close n (omega arith) (f .most) (355 * U) (less U) last current l c k h in
-    record { number = w .number; plus = looser-yet (P g) U (w .plus); minus = looser-yet (N g) U (w .minus) }
-  where
-    g : Float
-    g = added k last (stepOf last current (inverseOf (pos n)))
+ramp-within = ramp-below 355 512 (omega arith) (omega arith)
 
-    less : (u : ℕ) → 355 * u ≤ 512 * u
-    less u = omega arith
-
-    looser-yet : (a u : ℕ) → a ≤ 355 * u + u → a ≤ 512 * u
-    looser-yet a u i = omega arith
-
--- With factors up to 512 it is a number of magnitude at most 513.
+-- With factors up to 512 it is at most 513.
 pub ramp-number : (n : ℕ) → isSamples n ≡ true → (last current : Float) → UpTo (512 * U) last → UpTo (512 * U) current → (k : ℕ) → k ≤ n
     → Within (513 * U) (added k last (stepOf last current (inverseOf (pos n))))
-ramp-number n s last current l c k h =
-    let f = samples-facts n s in
-    let w = ramp-close n (omega arith) (f .most) (512 * U) (less U) last current l c k h in
-    record { number = w .number; plus = one-more (P g) U (w .plus); minus = one-more (N g) U (w .minus) }
-  where
-    g : Float
-    g = added k last (stepOf last current (inverseOf (pos n)))
-
-    less : (u : ℕ) → 512 * u ≤ 512 * u
-    less u = omega arith
-
-    one-more : (a u : ℕ) → a ≤ 512 * u + u → a ≤ 513 * u
-    one-more a u i = omega arith
+ramp-number = ramp-below 512 513 (omega arith) (omega arith)
