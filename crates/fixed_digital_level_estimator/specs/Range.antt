@@ -23,11 +23,6 @@ Sound x = Level (magnitude x)
 abbrev pub Held : List Float → Type 0
 Held xs = (i : ℕ) → T (fits binary32 (getD xs i nan))
 
--- p holds of each element of a list
-unfoldable pub Each : (Float → Type 0) → List Float → Type 0
-Each p [] = Unit {0}
-Each p (x ∷ xs) = p x × Each p xs
-
 -- a state that passes, and whose level is an f32, as the borrow checker knows of a handed-in state
 pub record Ready (e : Estimator) : Type 0 where
   pub held : T (fits binary32 (e .level))

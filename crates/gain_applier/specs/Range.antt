@@ -30,8 +30,3 @@ Sixteen x = In (ofBits binary32 0xc700_0000) (ofBits binary32 0x46ff_fe00) x
 -- each element of a list is an f32: what the borrow checker knows of a slice
 abbrev pub Held : List Float → Type 0
 Held xs = (i : ℕ) → T (fits binary32 (getD xs i nan))
-
--- p holds of each element of a list
-unfoldable pub Each : (Float → Type 0) → List Float → Type 0
-Each p [] = Unit {0}
-Each p (x ∷ xs) = p x × Each p xs

@@ -5,7 +5,7 @@ use mathlib.Core.Path.{_≡_}
 use lib.Dec.{T}
 use lib.Ieee.{Float, binary32, fits, ofBits}
 use Rattle.rounding.specs.Units.{In}
-use Rattle.fixed_digital_level_estimator.specs.Range.{Each}
+use Rattle.lists.specs.Each.{Each}
 use Rattle.limiter.specs.Limiter.{passes}
 use Rattle.limiter.specs.declared.Limiter.{Limiter}
 

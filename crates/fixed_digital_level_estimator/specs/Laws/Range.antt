@@ -13,6 +13,7 @@ use lib.Ieee.{Float, nan, inf, fin, binary32, le, lt, eq, add, mul, fits, ofBits
 use lib.Ieee.Fits.{and-i}
 use lib.Ieee.Scale.{finite}
 use lib.ListN.{length, getD, take, drop}
+use Rattle.lists.specs.Each.{Each, each-take, each-drop}
 use Rattle.rounding.specs.Units.{P, N, Number}
 use Rattle.rounding.specs.Laws.Exact.{constant-number}
 use Rattle.rounding.specs.Laws.Order.{le→units, units→le, le-box, between}
@@ -26,7 +27,7 @@ use Rattle.units.specs.Figures.{curveLevel}
 use Rattle.frames.specs.Samples.{largestLevel, within, allWithin}
 use Rattle.frames.specs.Facts.{and-first, and-second}
 use Rattle.fixed_digital_level_estimator.specs.Envelope.{silence, peakFrom, peaksIn, peaksOver, raised, decayed, smoothed}
-use Rattle.fixed_digital_level_estimator.specs.Range.{Level, Sound, Held, Each}
+use Rattle.fixed_digital_level_estimator.specs.Range.{Level, Sound, Held}
 
 -- ---- the two ends
 low-real : T (finite (ofBits binary32 0x0000_0000))
@@ -113,29 +114,6 @@ samples-level (x ∷ xs) f h =
     let first = within largestLevel x in
     let others = allWithin largestLevel xs in
     (sample-level x (f 0) (and-first first others h), samples-level xs (λ (i : ℕ). f (suc i)) (and-second first others h))
-
--- ---- what holds of each element
-module _ (p : Float → Type 0) where
-  -- What holds of each element holds of each of the first n.
-  pub each-take : (n : ℕ) (xs : List Float) → Each p xs → Each p (take n xs)
-  unfolding Each
-  each-take zero xs h = tt
-  each-take (suc n) [] h = tt
-  each-take (suc n) (x ∷ xs) h = (h .0, each-take n xs (h .1))
-
-  -- What holds of each element holds of each after the first n.
-  pub each-drop : (n : ℕ) (xs : List Float) → Each p xs → Each p (drop n xs)
-  unfolding Each
-  each-drop zero xs h = h
-  each-drop (suc n) [] h = tt
-  each-drop (suc n) (x ∷ xs) h = each-drop n xs (h .1)
-
-  -- What holds of each element holds of that at i.
-  pub each-at : (xs : List Float) (d : Float) (i : ℕ) → i < length xs → Each p xs → p (getD xs i d)
-  unfolding Each
-  each-at [] d i l h = absurd (not-suc-le-zero l)
-  each-at (x ∷ xs) d zero l h = h .0
-  each-at (x ∷ xs) d (suc i) l h = each-at xs d i (le-of-suc-le-suc l) (h .1)
 
 -- ---- the peaks
 -- The larger of two levels is a level.

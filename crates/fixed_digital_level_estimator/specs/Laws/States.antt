@@ -17,10 +17,11 @@ use Rattle.frames.specs.Samples.{largestLevel}
 use Rattle.frames.specs.Refusal.{frameRefusal}
 use Rattle.fixed_digital_level_estimator.specs.Envelope.{silence, peaksOver, raised}
 use Rattle.fixed_digital_level_estimator.specs.Estimator.{passes, none, sizedTo, made, envelopeOf, heardUpTo, computed, changed, cleared}
-use Rattle.fixed_digital_level_estimator.specs.Range.{Level, Held, Each, Ready}
+use Rattle.lists.specs.Each.{Each, each-at}
+use Rattle.fixed_digital_level_estimator.specs.Range.{Level, Held, Ready}
 use Rattle.fixed_digital_level_estimator.specs.Laws.Lengths.{envelope-length}
 use Rattle.fixed_digital_level_estimator.specs.Laws.Accepted.{passing, accepted}
-use Rattle.fixed_digital_level_estimator.specs.Laws.Range.{level-zero, level-of, level-passes, samples-level, each-at, peaks-over-level, silence-level, raised-level, smoothed-level}
+use Rattle.fixed_digital_level_estimator.specs.Laws.Range.{level-zero, level-of, level-passes, samples-level, peaks-over-level, silence-level, raised-level, smoothed-level}
 use Rattle.fixed_digital_level_estimator.specs.declared.Estimator.{Estimator}
 
 -- ---- tests

@@ -11,6 +11,7 @@ use lib.Dec.{T}
 use lib.IntN.{ℤ, pos}
 use lib.ListN.{length, take, drop, length-take}
 use lib.Ieee.{Float, nan, inf, fin, binary32, ofBits, add, mul, le, lt, eq, fits, isNan}
+use Rattle.lists.specs.Each.{Each, each-take, each-drop, each-append, each-so}
 use Rattle.rounding.specs.Units.{U, size, P, N, Number, Value, In}
 use Rattle.rounding.specs.Loops.{added, Within}
 use Rattle.rounding.specs.Laws.Whole.{U-pos, sides}
@@ -29,7 +30,7 @@ use Rattle.frames.specs.Facts.{and-first, and-second, samples-facts, taken}
 use Rattle.gain_applier.specs.declared.Applier.{Applier}
 use Rattle.gain_applier.specs.Sound.{closeToOne, scaled, ramped, clipped, stepOf, gained, finished}
 use Rattle.gain_applier.specs.Applier.{inverseOf, passes, applied}
-use Rattle.gain_applier.specs.Range.{UpTo, Sized, Plain, Sixteen, Held, Each}
+use Rattle.gain_applier.specs.Range.{UpTo, Sized, Plain, Sixteen, Held}
 use Rattle.gain_applier.specs.Laws.Again.{Passed, passed, samples-pass}
 use Rattle.gain_applier.specs.Laws.Ramp.{ramp-close}
 
@@ -155,33 +156,6 @@ times b c lo hi x g l h room z w =
     high p n q m hp hn b c u i j r s t v = rw (i, j) (omega (arith, r, s, t, v))
 
 -- ---- what holds of each sample
-module _ (p : Float → Type 0) where
-  -- What holds of each sample holds of the first n.
-  pub each-take : (n : ℕ) (xs : List Float) → Each p xs → Each p (take n xs)
-  unfolding Each
-  each-take zero xs h = tt
-  each-take (suc n) [] h = tt
-  each-take (suc n) (x ∷ xs) h = (h .0, each-take n xs (h .1))
-
-  -- What holds of each sample holds of those after the first n.
-  pub each-drop : (n : ℕ) (xs : List Float) → Each p xs → Each p (drop n xs)
-  unfolding Each
-  each-drop zero xs h = h
-  each-drop (suc n) [] h = tt
-  each-drop (suc n) (x ∷ xs) h = each-drop n xs (h .1)
-
-  -- What holds of each sample of two lists holds of each of both.
-  pub each-append : (xs ys : List Float) → Each p xs → Each p ys → Each p (xs ++ ys)
-  unfolding Each
-  each-append [] ys h k = k
-  each-append (x ∷ xs) ys h k = (h .0, each-append xs ys (h .1) k)
-
--- What follows of a sample follows of each.
-pub each-so : (p q : Float → Type 0) → ((x : Float) → p x → q x) → (xs : List Float) → Each p xs → Each q xs
-unfolding Each
-each-so p q f [] h = tt
-each-so p q f (x ∷ xs) h = (f x (h .0), each-so p q f xs (h .1))
-
 -- The samples of a frame within 65536 have at most as many units each.
 pub samples-sized : (xs : List Float) → Held xs → allWithin largestInput xs ≡ true → Each (Sized (65536 * U)) xs
 unfolding allWithin Each

@@ -17,8 +17,8 @@ use Rattle.floats.specs.Choice.{clamp}
 use Rattle.floats.specs.Kinds.{magnitude}
 use Rattle.intervals.specs.Laws.Choice.{clamp-in, Leq}
 use Rattle.frames.specs.Parts.{eachPart}
-use Rattle.fixed_digital_level_estimator.specs.Range.{Each, Level, Sound}
-use Rattle.fixed_digital_level_estimator.specs.Laws.Range.{each-take, each-drop}
+use Rattle.lists.specs.Each.{Each, each-take, each-drop}
+use Rattle.fixed_digital_level_estimator.specs.Range.{Level, Sound}
 use Rattle.limiter.specs.Factors.{whole, line, straight, curved, firstPart, laterParts, factors, limited}
 use Rattle.limiter.specs.Scale.{Fits16, FullScale}
 

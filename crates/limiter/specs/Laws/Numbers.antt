@@ -14,7 +14,7 @@ use Rattle.rounding.specs.Laws.Exact.{constant-number, whole-number}
 use Rattle.floats.specs.Choice.{larger, smaller}
 use Rattle.intervals.specs.Interval.{Expr, variable, constant, sum, difference, product, quotient, eval, Box, box, bounded, Boxed, AllBoxed}
 use Rattle.intervals.specs.Laws.Interval.{interval}
-use Rattle.fixed_digital_level_estimator.specs.Range.{Each}
+use Rattle.lists.specs.Each.{Each, each-append}
 use Rattle.limiter.specs.Factors.{whole, line, straight, eighth, curved, firstPart, laterParts, factors}
 use Rattle.limiter.specs.Scale.{Moderate}
 
@@ -134,11 +134,6 @@ module _ (start end : Float) (a : Moderate start) (b : Moderate end) (s : ℕ) (
       go false = straight-numbers
 
 -- ---- over a whole channel
-each-append : (p : Float → Type 0) (xs ys : List Float) → Each p xs → Each p ys → Each p (xs ++ ys)
-unfolding Each
-each-append p [] ys a b = b
-each-append p (x ∷ xs) ys a b = (a .0, each-append p xs ys (a .1) b)
-
 pub later-numbers : (s : ℕ) → 1 ≤ s → s ≤ 24 → (start : Float) (ends : List Float) → Moderate start → Each Moderate ends → Each Number (laterParts s start ends)
 unfolding laterParts Each
 later-numbers s i j start [] a b = tt

@@ -25,9 +25,10 @@ use Rattle.interpolated_gain_curve.specs.Curve as C
 use Rattle.interpolated_gain_curve.specs.Laws.Passes.{accepts, still-passes}
 use Rattle.interpolated_gain_curve.specs.Laws.Range.{Gain, gain-in-range}
 use Rattle.fixed_digital_level_estimator.specs.Estimator as E
-use Rattle.fixed_digital_level_estimator.specs.Range.{Each, Level, Sound, Held, Ready as EstimatorReady}
+use Rattle.lists.specs.Each.{Each, each-at}
+use Rattle.fixed_digital_level_estimator.specs.Range.{Level, Sound, Held, Ready as EstimatorReady}
 use Rattle.fixed_digital_level_estimator.specs.declared.Levels.{Levels}
-use Rattle.fixed_digital_level_estimator.specs.Laws.Range.{samples-level, level-passes, each-at}
+use Rattle.fixed_digital_level_estimator.specs.Laws.Range.{samples-level, level-passes}
 use Rattle.fixed_digital_level_estimator.specs.Laws.Lengths.{envelope-length}
 use Rattle.fixed_digital_level_estimator.specs.Laws.States.{envelope-levels, computed-ready}
 use Rattle.limiter.specs.declared.Limiter.{Limiter}

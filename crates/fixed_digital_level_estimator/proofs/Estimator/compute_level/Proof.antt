@@ -19,7 +19,8 @@ use Rattle.fixed_digital_level_estimator.specs.Estimator.{computed, enve
 use Rattle.fixed_digital_level_estimator.specs.Laws.Lengths.{envelope-length, any-default}
 use Rattle.fixed_digital_level_estimator.specs.Laws.Accepted.{accepted}
 use Rattle.fixed_digital_level_estimator.specs.Laws.States.{computed-levels}
-use Rattle.fixed_digital_level_estimator.specs.Range.{Level, Each}
+use Rattle.lists.specs.Each.{Each}
+use Rattle.fixed_digital_level_estimator.specs.Range.{Level}
 use Rattle.floats.specs.Laws.Kinds.{passed}
 use Rattle.fixed_digital_level_estimator.proofs.Estimator.compute_level.Statement.{statement}
 use Rattle.fixed_digital_level_estimator.proofs.Estimator.compute_level.Tie as tie
