@@ -1,24 +1,30 @@
-// The curve from level to gain. Each answer is the reply, one more figure, which is 0 where nothing else
-// is said of it, and the statistics: the four counts (identity, knee, limiter, saturation; two figures
-// each), whether there was a level, the region (0 to 3 in that order) and the duration (two figures).
+// The curve from level to gain. Its state is twelve figures, the statistics: the four counts (identity,
+// knee, limiter, saturation; two figures each), whether there was a level, the region (0 to 3 in that
+// order) and the duration (two figures). One result follows, which is 0 where nothing else is said of it.
 //
 //   curve.new
-//   curve.set STATISTICS      the curve with these statistics, 12 figures
+//   curve.set STATE           the curve with these statistics
 //   curve.passes              whether it passes
 //   curve.level X             the gain
-//   curve.stats               the statistics are those that the call gives
+//   curve.stats               twelve results: the statistics that the call gives
 
-use crate::desk::Call;
-use crate::desk::Desk;
-use crate::desk::Step;
-use crate::lines::Answer;
+use crate::desk;
+use crate::desk::Said;
+use crate::figures;
+use crate::lines;
+use crate::lines::Asked;
 use crate::numbers;
 use interpolated_gain_curve::Curve;
-use interpolated_gain_curve::Read;
+use interpolated_gain_curve::Looked;
 use units::kinds::LinearS16;
 use units::replies::DONE;
 
-// The words, by their numbers in the list of src/desk.rt.
+// Where the state stands on the desk.
+pub const FROM: usize = 12;
+
+pub const SIZE: usize = 12;
+
+// The words, by their numbers in the list below.
 const NEW: u32 = 0;
 
 const SET: u32 = 1;
@@ -31,119 +37,110 @@ const STATS: u32 = 4;
 
 const NONE: u32 = 5;
 
-// A reply, a result, and the curve after it.
-struct After {
-    reply: u32,
-    result: u32,
-    curve: Curve,
-}
-
 // The word, where it has as many figures as it takes.
-fn word_of(word: u32, count: usize) -> u32 {
-    let due = numbers::pick(word == SET, 12, numbers::pick(word == LEVEL, 1, 0));
-    if count == due { word } else { NONE }
+fn word_of(line: &[u8], asked: Asked) -> u32 {
+    let word = lines::number_of(
+        line,
+        asked.part,
+        asked.name,
+        b".new .set .passes .level .stats ",
+    );
+    let due = numbers::pick(word == SET, SIZE, numbers::pick(word == LEVEL, 1, 0));
+    if asked.count == due { word } else { NONE }
 }
 
-// The curve of 12 figures.
-fn curve_of(figures: [u32; 12]) -> Curve {
+// The curve whose figures stand at a place.
+pub(crate) fn read(all: &[u32], from: usize) -> Curve {
     Curve {
-        identity: numbers::joined(figures[0], figures[1]),
-        knee: numbers::joined(figures[2], figures[3]),
-        limiter: numbers::joined(figures[4], figures[5]),
-        saturation: numbers::joined(figures[6], figures[7]),
-        available: figures[8] != 0,
-        region: figures[9],
-        duration: numbers::signed(numbers::joined(figures[10], figures[11])),
+        identity: figures::long(all, from, 0),
+        knee: figures::long(all, from, 2),
+        limiter: figures::long(all, from, 4),
+        saturation: figures::long(all, from, 6),
+        available: figures::flag(all, from, 8),
+        region: figures::word(all, from, 9),
+        duration: numbers::signed(figures::long(all, from, 10)),
     }
 }
 
-fn level(curve: Curve, figure: u32) -> After {
-    let a = curve.look_up_gain_to_apply(LinearS16(words::float_of(figure)));
-    let new = a.curve;
-    After {
-        reply: a.reply,
-        result: words::bits_of(a.gain),
-        curve: new,
-    }
+// Stores a curve's figures at a place.
+pub(crate) fn write(all: &mut [u32], from: usize, curve: Curve) {
+    figures::put_long(all, from, 0, curve.identity);
+    figures::put_long(all, from, 2, curve.knee);
+    figures::put_long(all, from, 4, curve.limiter);
+    figures::put_long(all, from, 6, curve.saturation);
+    figures::put_word(all, from, 8, numbers::flag(curve.available));
+    figures::put_word(all, from, 9, curve.region);
+    figures::put_long(all, from, 10, numbers::unsigned(curve.duration));
 }
 
-// The curve after a word, with what the word says.
-fn next(curve: Curve, word: u32, figures: [u32; 12]) -> After {
-    if word == NEW {
-        After {
+// The curve after a word, with the reply and the gain, which is 0 where the word asks for none.
+fn next(curve: Curve, word: u32, all: &[u32]) -> Looked {
+    if word == LEVEL {
+        curve.look_up_gain_to_apply(LinearS16(figures::float(all, 0, 0)))
+    } else if word == NEW {
+        Looked {
             reply: DONE,
-            result: 0,
             curve: Curve::new(),
+            gain: 0.0,
         }
     } else if word == SET {
-        After {
+        Looked {
             reply: DONE,
-            result: 0,
-            curve: curve_of(figures),
-        }
-    } else if word == LEVEL {
-        level(curve, figures[0])
-    } else if word == PASSES {
-        After {
-            reply: DONE,
-            result: numbers::flag(curve.passes()),
-            curve,
+            curve: read(all, 0),
+            gain: 0.0,
         }
     } else {
-        After {
+        Looked {
             reply: DONE,
-            result: 0,
             curve,
+            gain: 0.0,
         }
     }
 }
 
-// The statistics that are shown, with their reply.
-fn shown(curve: Curve, word: u32, reply: u32) -> Read {
+// What a word says of the curve after it: the gain, but where it asks whether the curve passes.
+fn result(curve: Curve, word: u32, gain: f32) -> u32 {
+    if word == PASSES {
+        numbers::flag(curve.passes())
+    } else {
+        words::bits_of(gain)
+    }
+}
+
+// Tells the statistics that the call gives, and answers its reply.
+fn stats(curve: Curve, told: &mut [u32]) -> u32 {
+    let a = curve.get_stats();
+    let given = a.stats;
+    write(told, 0, given);
+    a.reply
+}
+
+pub(crate) fn answer(
+    line: &[u8],
+    asked: Asked,
+    all: &[u32],
+    desk: &mut [u32],
+    told: &mut [u32],
+) -> Said {
+    let word = word_of(line, asked);
+    if word == NONE {
+        return desk::no_question();
+    }
+    let curve = read(desk, FROM);
     if word == STATS {
-        curve.get_stats()
-    } else {
-        Read {
-            reply,
-            stats: curve,
-        }
+        return Said {
+            reply: stats(curve, told),
+            results: SIZE,
+            sound: false,
+        };
     }
-}
-
-fn said(reply: u32, result: u32, curve: Curve, count: usize) -> Answer {
-    let lasts = numbers::unsigned(curve.duration);
-    Answer {
-        count,
-        figures: [
-            reply,
-            result,
-            numbers::high(curve.identity),
-            numbers::low(curve.identity),
-            numbers::high(curve.knee),
-            numbers::low(curve.knee),
-            numbers::high(curve.limiter),
-            numbers::low(curve.limiter),
-            numbers::high(curve.saturation),
-            numbers::low(curve.saturation),
-            numbers::flag(curve.available),
-            curve.region,
-            numbers::high(lasts),
-            numbers::low(lasts),
-            0,
-            0,
-        ],
-    }
-}
-
-pub(crate) fn answer(mut desk: Desk, call: Call) -> Step {
-    let curve = desk.curve;
-    let figures = call.figures;
-    let word = word_of(call.word, call.count);
-    let a = next(curve, word, figures);
+    let a = next(curve, word, all);
     let new = a.curve;
-    desk.curve = new;
-    let r = shown(new, word, a.reply);
-    let stats = r.stats;
-    let answer = said(r.reply, a.result, stats, numbers::pick(word < NONE, 14, 0));
-    Step { desk, answer }
+    write(desk, FROM, new);
+    figures::put_word(told, 0, 0, result(new, word, a.gain));
+    Said {
+        reply: a.reply,
+        results: 1,
+        sound: false,
+    }
 }

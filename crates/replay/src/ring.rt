@@ -1,8 +1,8 @@
-// The ring of recent peaks. Each answer is the reply, the whole ring as it is then (the place, the size
-// and the four stored figures) and two more figures, which are 0 where nothing else is said of them:
+// The ring of recent peaks. Its state is six figures: the place, the size and the four that are stored.
+// Two results follow, which are 0 where nothing else is said of them.
 //
 //   ring.new
-//   ring.set P S A B C D      the ring with this place, this size and these stored figures
+//   ring.set STATE            the ring with this place, this size and these stored figures
 //   ring.passes               whether it passes
 //   ring.capacity             how many peaks a ring can hold
 //   ring.push X
@@ -12,10 +12,11 @@
 //   ring.keep                 a copy is put aside
 //   ring.equals               whether it equals the one that was put aside
 
-use crate::desk::Call;
-use crate::desk::Desk;
-use crate::desk::Step;
-use crate::lines::Answer;
+use crate::desk;
+use crate::desk::Said;
+use crate::figures;
+use crate::lines;
+use crate::lines::Asked;
 use crate::numbers;
 use saturation_protector_buffer::Front;
 use saturation_protector_buffer::Next;
@@ -23,7 +24,14 @@ use saturation_protector_buffer::Ring;
 use units::kinds::Dbfs;
 use units::replies::DONE;
 
-// The words, by their numbers in the list of src/desk.rt.
+// Where the state stands on the desk. The ring that is put aside stands after it.
+pub const FROM: usize = 0;
+
+pub const SIZE: usize = 6;
+
+const ASIDE: usize = 6;
+
+// The words, by their numbers in the list below.
 const NEW: u32 = 0;
 
 const SET: u32 = 1;
@@ -38,7 +46,7 @@ const RESET: u32 = 5;
 
 const FRONT: u32 = 6;
 
-const SIZE: u32 = 7;
+const COUNT: u32 = 7;
 
 const KEEP: u32 = 8;
 
@@ -54,27 +62,44 @@ struct Told {
 }
 
 // The word, where it has as many figures as it takes.
-fn word_of(word: u32, count: usize) -> u32 {
-    let due = numbers::pick(word == SET, 6, numbers::pick(word == PUSH, 1, 0));
-    if count == due { word } else { NONE }
+fn word_of(line: &[u8], asked: Asked) -> u32 {
+    let word = lines::number_of(
+        line,
+        asked.part,
+        asked.name,
+        b".new .set .passes .capacity .push .reset .front .size .keep .equals ",
+    );
+    let due = numbers::pick(word == SET, SIZE, numbers::pick(word == PUSH, 1, 0));
+    if asked.count == due { word } else { NONE }
 }
 
-// The ring of six figures.
-fn ring_of(figures: [u32; 12]) -> Ring {
+// The ring whose figures stand at a place.
+fn read(all: &[u32], from: usize) -> Ring {
     Ring {
         stored: [
-            words::float_of(figures[2]),
-            words::float_of(figures[3]),
-            words::float_of(figures[4]),
-            words::float_of(figures[5]),
+            figures::float(all, from, 2),
+            figures::float(all, from, 3),
+            figures::float(all, from, 4),
+            figures::float(all, from, 5),
         ],
-        place: figures[0] as usize,
-        size: figures[1] as usize,
+        place: figures::count(all, from, 0),
+        size: figures::count(all, from, 1),
     }
 }
 
+// Stores a ring's figures at a place.
+fn write(all: &mut [u32], from: usize, ring: Ring) {
+    let stored = ring.stored;
+    figures::put_count(all, from, 0, ring.place);
+    figures::put_count(all, from, 1, ring.size);
+    figures::put_float(all, from, 2, stored[0]);
+    figures::put_float(all, from, 3, stored[1]);
+    figures::put_float(all, from, 4, stored[2]);
+    figures::put_float(all, from, 5, stored[3]);
+}
+
 // The ring after a word, with the reply where the word changes it.
-fn next(ring: Ring, word: u32, figures: [u32; 12]) -> Next {
+fn next(ring: Ring, word: u32, all: &[u32]) -> Next {
     if word == NEW {
         Next {
             reply: DONE,
@@ -83,10 +108,10 @@ fn next(ring: Ring, word: u32, figures: [u32; 12]) -> Next {
     } else if word == SET {
         Next {
             reply: DONE,
-            ring: ring_of(figures),
+            ring: read(all, 0),
         }
     } else if word == PUSH {
-        ring.push_back(Dbfs(words::float_of(figures[0])))
+        ring.push_back(Dbfs(figures::float(all, 0, 0)))
     } else if word == RESET {
         ring.reset()
     } else {
@@ -112,7 +137,7 @@ fn oldest(ring: Ring) -> Told {
     }
 }
 
-// What a word says of the ring after it.
+// What a word says of the ring after it, and of the one that was put aside.
 fn results(ring: Ring, aside: Ring, word: u32, reply: u32) -> Told {
     if word == PASSES {
         Told {
@@ -128,7 +153,7 @@ fn results(ring: Ring, aside: Ring, word: u32, reply: u32) -> Told {
         }
     } else if word == FRONT {
         oldest(ring)
-    } else if word == SIZE {
+    } else if word == COUNT {
         let a = ring.size();
         Told {
             reply: a.reply,
@@ -151,50 +176,27 @@ fn results(ring: Ring, aside: Ring, word: u32, reply: u32) -> Told {
     }
 }
 
-// The ring that is aside after a word.
-fn aside_after(ring: Ring, aside: Ring, word: u32) -> Ring {
-    if word == KEEP { ring } else { aside }
-}
-
-fn said(told: Told, ring: Ring, count: usize) -> Answer {
-    let stored = ring.stored;
-    Answer {
-        count,
-        figures: [
-            told.reply,
-            numbers::low(ring.place as u64),
-            numbers::low(ring.size as u64),
-            words::bits_of(stored[0]),
-            words::bits_of(stored[1]),
-            words::bits_of(stored[2]),
-            words::bits_of(stored[3]),
-            told.first,
-            told.second,
-            0,
-            0,
-            0,
-            0,
-            0,
-            0,
-            0,
-        ],
+pub(crate) fn answer(
+    line: &[u8],
+    asked: Asked,
+    all: &[u32],
+    desk: &mut [u32],
+    told: &mut [u32],
+) -> Said {
+    let word = word_of(line, asked);
+    if word == NONE {
+        return desk::no_question();
     }
-}
-
-pub(crate) fn answer(mut desk: Desk, call: Call) -> Step {
-    let ring = desk.ring;
-    let aside = desk.aside;
-    let figures = call.figures;
-    let word = word_of(call.word, call.count);
-    let a = next(ring, word, figures);
+    let a = next(read(desk, FROM), word, all);
     let after = a.ring;
-    let kept = aside_after(after, aside, word);
-    desk.ring = after;
-    desk.aside = kept;
-    let answer = said(
-        results(after, kept, word, a.reply),
-        after,
-        numbers::pick(word < NONE, 9, 0),
-    );
-    Step { desk, answer }
+    let r = results(after, read(desk, ASIDE), word, a.reply);
+    write(desk, FROM, after);
+    write(desk, numbers::pick(word == KEEP, ASIDE, FROM), after);
+    figures::put_word(told, 0, 0, r.first);
+    figures::put_word(told, 0, 1, r.second);
+    Said {
+        reply: r.reply,
+        results: 2,
+        sound: false,
+    }
 }

@@ -7,10 +7,10 @@ use Rattle.replay.proofs.lines.figures.Statement.{statement}
 use Rattle.replay.proofs.lines.figures.Tie as tie
 
 abbrev Inv-loop : tie.InvT-loop
-Inv-loop line name all₀ i₀ all i = (i ≤ 12) × (length all ≡ 12)
+Inv-loop line name all₀ i₀ all i = (i ≤ 32) × (length all ≡ 32)
 
 abbrev μ-loop : tie.MeasureT-loop
-μ-loop line name all₀ i₀ all i = 12 - i
+μ-loop line name all₀ i₀ all i = 32 - i
 
 loop-holds : tie.Need-loop-holds Inv-loop μ-loop
 loop-holds c = search needs
