@@ -1,61 +1,35 @@
-// The gain applier. Its state is five figures: whether it clips, the gain factor that the last frame
-// ended with, the one to end the next frame with, the samples of a channel and 1 over them. One result
-// follows, which is 0 where nothing else is said of it.
+// The gain applier.
 //
 //   applier.new CLIP FACTOR
 //   applier.set STATE             the applier with this state
-//   applier.passes                whether it passes
 //   applier.factor FACTOR         set_gain_factor
-//   applier.told                  get_gain_factor: the factor
-//   applier.apply FRAME           apply_gain: no result; the samples follow
+//   applier.apply FRAME           apply_gain
+//
+// Each answer shows the state, which is five figures (whether it clips, the gain factor that the last
+// frame ended with, the one to end the next frame with, the samples of a channel and 1 over them);
+// whether it passes; and get_gain_factor (a reply and the factor).
 
-use crate::desk;
-use crate::desk::Said;
-use crate::desk::Told;
+use crate::desk::ASKED;
 use crate::figures;
-use crate::lines;
-use crate::lines::Asked;
 use crate::numbers;
 use gain_applier::Applier;
-use gain_applier::Next;
 use units::replies::DONE;
 
-// Where the state stands on the desk.
-pub const FROM: usize = 27;
+// Where the figures stand on the desk.
+pub const FROM: usize = 114;
 
-pub const SIZE: usize = 5;
+pub const SHOWN: usize = 8;
 
-// The words, by their numbers in the list below.
-const NEW: u32 = 0;
+// The words, by their numbers in the list of src/desk.rt.
+pub const FIRST: u32 = 15;
 
-const SET: u32 = 1;
+const NEW: u32 = 15;
 
-const PASSES: u32 = 2;
+const SET: u32 = 16;
 
-const FACTOR: u32 = 3;
+const FACTOR: u32 = 17;
 
-const TOLD: u32 = 4;
-
-const APPLY: u32 = 5;
-
-const NONE: u32 = 6;
-
-// The word, where it has as many figures as it takes.
-fn word_of(line: &[u8], asked: Asked) -> u32 {
-    let word = lines::number_of(
-        line,
-        asked.part,
-        asked.name,
-        b".new .set .passes .factor .told .apply ",
-    );
-    let few = numbers::pick(word == NEW, 2, numbers::pick(word == FACTOR, 1, 0));
-    let due = numbers::pick(word == SET, SIZE, few);
-    if lines::is_due(asked.count, due, word == APPLY) {
-        word
-    } else {
-        NONE
-    }
-}
+pub const APPLY: u32 = 18;
 
 // The applier whose figures stand at a place.
 pub(crate) fn read(all: &[u32], from: usize) -> Applier {
@@ -68,89 +42,56 @@ pub(crate) fn read(all: &[u32], from: usize) -> Applier {
     }
 }
 
-// Stores an applier's figures at a place.
-pub(crate) fn write(all: &mut [u32], from: usize, applier: Applier) {
-    figures::put_word(all, from, 0, numbers::flag(applier.clip));
-    figures::put_float(all, from, 1, applier.last);
-    figures::put_float(all, from, 2, applier.current);
-    figures::put_word(all, from, 3, numbers::unsigned32(applier.samples));
-    figures::put_float(all, from, 4, applier.inverse);
+// The figures that are shown of an applier.
+pub(crate) fn shown(applier: Applier) -> [u32; 8] {
+    let told = applier.get_gain_factor();
+    [
+        numbers::flag(applier.clip),
+        words::bits_of(applier.last),
+        words::bits_of(applier.current),
+        numbers::unsigned32(applier.samples),
+        words::bits_of(applier.inverse),
+        numbers::flag(applier.passes()),
+        told.reply,
+        words::bits_of(told.factor),
+    ]
 }
 
-// The applier after a word that takes no frame, with the reply.
-fn next(applier: Applier, word: u32, all: &[u32]) -> Next {
-    if word == NEW {
-        Applier::new(figures::flag(all, 0, 0), figures::float(all, 0, 1))
-    } else if word == SET {
-        Next {
-            reply: DONE,
-            applier: read(all, 0),
-        }
-    } else if word == FACTOR {
-        applier.set_gain_factor(figures::float(all, 0, 0))
-    } else {
-        Next {
-            reply: DONE,
-            applier,
-        }
-    }
-}
-
-// What a word says of the applier after it.
-fn results(applier: Applier, word: u32, reply: u32) -> Told {
-    if word == PASSES {
-        Told {
-            reply,
-            result: numbers::flag(applier.passes()),
-        }
-    } else if word == TOLD {
-        let a = applier.get_gain_factor();
-        Told {
-            reply: a.reply,
-            result: words::bits_of(a.factor),
-        }
-    } else {
-        Told { reply, result: 0 }
-    }
+// Leaves an applier's figures on the desk, and answers the reply.
+fn leave(desk: &mut [u32], reply: u32, applier: Applier) -> u32 {
+    let all = shown(applier);
+    figures::put(desk, FROM, &all);
+    reply
 }
 
 // Puts the gain on a frame, and answers the reply.
-fn apply(desk: &mut [u32], frame: &mut [f32], channels: usize, samples: usize) -> u32 {
-    let a = read(desk, FROM).apply_gain(frame, channels, samples);
-    let new = a.applier;
-    write(desk, FROM, new);
-    a.reply
+fn apply(desk: &mut [u32], applier: Applier, frame: &mut [f32]) -> u32 {
+    let channels = figures::count(desk, ASKED, 0);
+    let samples = figures::count(desk, ASKED, 1);
+    let a = applier.apply_gain(frame, channels, samples);
+    let after = a.applier;
+    leave(desk, a.reply, after)
 }
 
-pub(crate) fn answer(
-    line: &[u8],
-    asked: Asked,
-    all: &[u32],
-    desk: &mut [u32],
-    told: &mut [u32],
-    frame: &mut [f32],
-) -> Said {
-    let word = word_of(line, asked);
-    if word == NONE {
-        return desk::no_question();
+// Answers the question that lies on the desk.
+pub(crate) fn answer(word: u32, desk: &mut [u32], frame: &mut [f32]) -> u32 {
+    let applier = read(desk, FROM);
+    if word == NEW {
+        let a = Applier::new(
+            figures::flag(desk, ASKED, 0),
+            figures::float(desk, ASKED, 1),
+        );
+        let after = a.applier;
+        return leave(desk, a.reply, after);
     }
-    if word == APPLY {
-        let channels = figures::count(all, 0, 0);
-        let samples = figures::count(all, 0, 1);
-        return Said {
-            reply: apply(desk, frame, channels, samples),
-            results: 0,
-            sound: true,
-        };
+    if word == SET {
+        let given = read(desk, ASKED);
+        return leave(desk, DONE, given);
     }
-    let a = next(read(desk, FROM), word, all);
-    let new = a.applier;
-    write(desk, FROM, new);
-    let r = results(new, word, a.reply);
-    figures::put_word(told, 0, 0, r.result);
-    Said {
-        reply: r.reply,
-        results: 1,
-        sound: false,
+    if word == FACTOR {
+        let a = applier.set_gain_factor(figures::float(desk, ASKED, 0));
+        let after = a.applier;
+        return leave(desk, a.reply, after);
     }
+    apply(desk, applier, frame)
 }

@@ -1,63 +1,39 @@
-// The level estimator. Its state is three figures: the level, the samples of a channel and those of a
-// sub-frame. One result follows, which is 0 where nothing else is said of it.
+// The level estimator.
 //
 //   estimator.new SAMPLES
 //   estimator.set STATE           the estimator with this state
-//   estimator.passes              whether it passes
 //   estimator.samples SAMPLES     set_samples_per_channel
 //   estimator.reset
-//   estimator.last                last_audio_level: the level
-//   estimator.level FRAME         compute_level: twenty results, the envelope; and then the samples
+//   estimator.level FRAME         compute_level: twenty results, the envelope
+//
+// Each answer shows the state, which is three figures (the level, the samples of a channel and those of
+// a sub-frame); whether it passes; and last_audio_level (a reply and the level).
 
-use crate::desk;
-use crate::desk::Said;
-use crate::desk::Told;
+use crate::desk::ASKED;
+use crate::desk::RESULTS;
+use crate::desk::TOLD;
 use crate::figures;
-use crate::lines;
-use crate::lines::Asked;
 use crate::numbers;
 use fixed_digital_level_estimator::Estimator;
-use fixed_digital_level_estimator::Next;
 use units::replies::DONE;
 
-// Where the state stands on the desk.
-pub const FROM: usize = 24;
+// Where the figures stand on the desk.
+pub const FROM: usize = 108;
 
-pub const SIZE: usize = 3;
+pub const SHOWN: usize = 6;
 
-// The words, by their numbers in the list below.
-const NEW: u32 = 0;
+// The words, by their numbers in the list of src/desk.rt.
+pub const FIRST: u32 = 10;
 
-const SET: u32 = 1;
+const NEW: u32 = 10;
 
-const PASSES: u32 = 2;
+const SET: u32 = 11;
 
-const SAMPLES: u32 = 3;
+const SAMPLES: u32 = 12;
 
-const RESET: u32 = 4;
+const RESET: u32 = 13;
 
-const LAST: u32 = 5;
-
-const LEVEL: u32 = 6;
-
-const NONE: u32 = 7;
-
-// The word, where it has as many figures as it takes.
-fn word_of(line: &[u8], asked: Asked) -> u32 {
-    let word = lines::number_of(
-        line,
-        asked.part,
-        asked.name,
-        b".new .set .passes .samples .reset .last .level ",
-    );
-    let one = (word == NEW) | (word == SAMPLES);
-    let due = numbers::pick(word == SET, SIZE, numbers::pick(one, 1, 0));
-    if lines::is_due(asked.count, due, word == LEVEL) {
-        word
-    } else {
-        NONE
-    }
-}
+pub const LEVEL: u32 = 14;
 
 // The estimator whose figures stand at a place.
 pub(crate) fn read(all: &[u32], from: usize) -> Estimator {
@@ -68,98 +44,61 @@ pub(crate) fn read(all: &[u32], from: usize) -> Estimator {
     }
 }
 
-// Stores an estimator's figures at a place.
-pub(crate) fn write(all: &mut [u32], from: usize, estimator: Estimator) {
-    figures::put_float(all, from, 0, estimator.level);
-    figures::put_count(all, from, 1, estimator.samples);
-    figures::put_count(all, from, 2, estimator.part);
+// The figures that are shown of an estimator.
+pub(crate) fn shown(estimator: Estimator) -> [u32; 6] {
+    let heard = estimator.last_audio_level();
+    let level = heard.level;
+    [
+        words::bits_of(estimator.level),
+        numbers::low(estimator.samples as u64),
+        numbers::low(estimator.part as u64),
+        numbers::flag(estimator.passes()),
+        heard.reply,
+        words::bits_of(level.0),
+    ]
 }
 
-// The estimator after a word that takes no frame, with the reply.
-fn next(estimator: Estimator, word: u32, all: &[u32]) -> Next {
-    if word == NEW {
-        Estimator::new(figures::count(all, 0, 0))
-    } else if word == SET {
-        Next {
-            reply: DONE,
-            estimator: read(all, 0),
-        }
-    } else if word == SAMPLES {
-        estimator.set_samples_per_channel(figures::count(all, 0, 0))
-    } else if word == RESET {
-        estimator.reset()
-    } else {
-        Next {
-            reply: DONE,
-            estimator,
-        }
-    }
-}
-
-// What a word says of the estimator after it.
-fn results(estimator: Estimator, word: u32, reply: u32) -> Told {
-    if word == PASSES {
-        Told {
-            reply,
-            result: numbers::flag(estimator.passes()),
-        }
-    } else if word == LAST {
-        let a = estimator.last_audio_level();
-        let level = a.level;
-        Told {
-            reply: a.reply,
-            result: words::bits_of(level.0),
-        }
-    } else {
-        Told { reply, result: 0 }
-    }
+// Leaves an estimator's figures on the desk, and answers the reply.
+fn leave(desk: &mut [u32], reply: u32, estimator: Estimator) -> u32 {
+    let all = shown(estimator);
+    figures::put(desk, FROM, &all);
+    reply
 }
 
 // Asks for the envelope of a frame and tells it, and answers the reply.
-fn level(
-    desk: &mut [u32],
-    told: &mut [u32],
-    frame: &[f32],
-    channels: usize,
-    samples: usize,
-) -> u32 {
-    let a = read(desk, FROM).compute_level(frame, channels, samples);
-    let new = a.estimator;
+fn level(desk: &mut [u32], estimator: Estimator, frame: &[f32]) -> u32 {
+    let channels = figures::count(desk, ASKED, 0);
+    let samples = figures::count(desk, ASKED, 1);
+    let a = estimator.compute_level(frame, channels, samples);
     let envelope = a.envelope;
-    write(desk, FROM, new);
-    figures::put_floats(told, &envelope);
-    a.reply
+    figures::put_floats(desk, TOLD, &envelope);
+    figures::store(desk, RESULTS, 20);
+    let after = a.estimator;
+    leave(desk, a.reply, after)
 }
 
-pub(crate) fn answer(
-    line: &[u8],
-    asked: Asked,
-    all: &[u32],
-    desk: &mut [u32],
-    told: &mut [u32],
-    frame: &[f32],
-) -> Said {
-    let word = word_of(line, asked);
-    if word == NONE {
-        return desk::no_question();
+// Answers the question that lies on the desk.
+pub(crate) fn answer(word: u32, desk: &mut [u32], frame: &[f32]) -> u32 {
+    let estimator = read(desk, FROM);
+    let samples = figures::count(desk, ASKED, 0);
+    if word == NEW {
+        let a = Estimator::new(samples);
+        let after = a.estimator;
+        return leave(desk, a.reply, after);
     }
-    if word == LEVEL {
-        let channels = figures::count(all, 0, 0);
-        let samples = figures::count(all, 0, 1);
-        return Said {
-            reply: level(desk, told, frame, channels, samples),
-            results: 20,
-            sound: true,
-        };
+    if word == SET {
+        let given = read(desk, ASKED);
+        return leave(desk, DONE, given);
     }
-    let a = next(read(desk, FROM), word, all);
-    let new = a.estimator;
-    write(desk, FROM, new);
-    let r = results(new, word, a.reply);
-    figures::put_word(told, 0, 0, r.result);
-    Said {
-        reply: r.reply,
-        results: 1,
-        sound: false,
+    if word == SAMPLES {
+        let a = estimator.set_samples_per_channel(samples);
+        let after = a.estimator;
+        return leave(desk, a.reply, after);
     }
+    if word == RESET {
+        let a = estimator.reset();
+        let after = a.estimator;
+        return leave(desk, a.reply, after);
+    }
+    level(desk, estimator, frame)
 }

@@ -1,5 +1,5 @@
-// Figures in a row, as a state has them here and as a question does. Every function takes any place:
-// one that lies outside holds 0, and nothing is stored there.
+// Figures in a row, as the desk has them. Every function takes any place: one that lies outside holds
+// 0, and nothing is stored there.
 
 use crate::numbers;
 use std::num::wrapping_add_usize;
@@ -40,39 +40,39 @@ fn wide(n: u32) -> usize {
 }
 
 // Stores a figure at a place.
-fn store(all: &mut [u32], place: usize, figure: u32) {
+pub(crate) fn store(all: &mut [u32], place: usize, figure: u32) {
     if place < all.len() {
         all[place] = figure;
     }
 }
 
-// Stores a figure so many after a place.
-pub(crate) fn put_word(all: &mut [u32], from: usize, i: usize, figure: u32) {
-    store(all, wrapping_add_usize(from, i), figure);
-}
-
-// The same of a float.
-pub(crate) fn put_float(all: &mut [u32], from: usize, i: usize, x: f32) {
-    store(all, wrapping_add_usize(from, i), words::bits_of(x));
-}
-
-// The same of a count, of which the lower half is stored.
-pub(crate) fn put_count(all: &mut [u32], from: usize, i: usize, n: usize) {
-    store(all, wrapping_add_usize(from, i), numbers::low(n as u64));
-}
-
-// The same of a number of 64 bits.
-pub(crate) fn put_long(all: &mut [u32], from: usize, i: usize, n: u64) {
-    let place = wrapping_add_usize(from, i);
-    store(all, place, numbers::high(n));
-    put_word(all, place, 1, numbers::low(n));
-}
-
-// Stores each of some floats, from the start on.
-pub(crate) fn put_floats(all: &mut [u32], values: &[f32]) {
+// Stores some figures, from a place on.
+pub(crate) fn put(all: &mut [u32], from: usize, some: &[u32]) {
     let mut i = 0;
-    while i < values.len() {
-        put_float(all, 0, i, values[i]);
+    while i < some.len() {
+        store(all, wrapping_add_usize(from, i), some[i]);
+        i += 1;
+    }
+}
+
+// Stores some floats, from a place on.
+pub(crate) fn put_floats(all: &mut [u32], from: usize, some: &[f32]) {
+    let mut i = 0;
+    while i < some.len() {
+        store(all, wrapping_add_usize(from, i), words::bits_of(some[i]));
+        i += 1;
+    }
+}
+
+// Stores the figures of a line whose name ends at a place: as many as are asked for, and 0 where the
+// line has no more.
+pub(crate) fn ask(all: &mut [u32], line: &[u8], name: usize, count: usize) {
+    let mut at = wrapping_add_usize(name, 1);
+    let mut i: usize = 0;
+    while i < count {
+        let figure = words::read(line, at);
+        store(all, i, figure.bits);
+        at = wrapping_add_usize(at, 9);
         i += 1;
     }
 }

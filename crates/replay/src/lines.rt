@@ -8,11 +8,10 @@ use crate::figures;
 use std::num::wrapping_add_u32;
 use std::num::wrapping_add_usize;
 
-// What a line says: whether it is a name and then figures, where the name ends, where the first dot
-// of the name is (where there is none, its end), and how many figures follow.
+// What a line says: whether it is a name and then figures, where the name ends, and how many figures
+// follow.
 pub struct Asked {
     pub ok: bool,
-    pub part: usize,
     pub name: usize,
     pub count: usize,
 }
@@ -34,12 +33,9 @@ fn first(line: &[u8], byte: u8) -> usize {
     i
 }
 
-fn smaller(a: usize, b: usize) -> usize {
-    if b < a { b } else { a }
-}
-
-// How many figures follow a place, each with one space before it, and whether nothing else does.
-fn counted(line: &[u8], part: usize, name: usize) -> Asked {
+// Takes a line apart.
+pub(crate) fn split(line: &[u8]) -> Asked {
+    let name = first(line, b' ');
     let mut ok = true;
     let mut count: usize = 0;
     let mut at = name;
@@ -53,38 +49,48 @@ fn counted(line: &[u8], part: usize, name: usize) -> Asked {
             at + 9
         };
     }
-    Asked {
-        ok,
-        part,
-        name,
-        count,
+    Asked { ok, name, count }
+}
+
+// The most samples that a frame can have.
+pub const MOST: usize = 3840;
+
+// Whether so many figures are as many as a byte of a list says: a digit, in which a is 10, or a star
+// for a frame, which is two figures and its samples.
+fn is_due(count: usize, byte: u8) -> bool {
+    if byte == b'*' {
+        (2 <= count) & (count <= MOST + 2)
+    } else if count < 10 {
+        48 + count as u8 == byte
+    } else if count < 32 {
+        87 + count as u8 == byte
+    } else {
+        false
     }
 }
 
-// Takes a line apart.
-pub(crate) fn split(line: &[u8]) -> Asked {
-    let name = first(line, b' ');
-    let dot = first(line, b'.');
-    counted(line, smaller(dot, name), name)
-}
-
-// The number of the word that stands in a line from one place to another, among the words of a list,
-// which are counted from 0 and have one space after each. Where it is none of them, how many there are.
-pub(crate) fn number_of(line: &[u8], from: usize, to: usize, list: &[u8]) -> u32 {
+// The number of a line's name among the names of a list, which are counted from 0, and each has the byte
+// of `is_due` before it and one space after it. Where it is none of them, or does not have its figures,
+// how many there are.
+pub(crate) fn number_of(line: &[u8], asked: Asked, list: &[u8]) -> u32 {
     let mut n: u32 = 0;
-    let mut at = from;
-    let mut same = true;
+    let mut at: usize = 0;
+    let mut same = asked.ok;
+    let mut due = true;
     let mut i = 0;
     while i < list.len() {
         let byte = list[i];
         i += 1;
-        if byte == b' ' {
-            if same & (at == to) {
+        if due {
+            due = false;
+            same = asked.ok & is_due(asked.count, byte);
+            at = 0;
+        } else if byte == b' ' {
+            if same & (at == asked.name) {
                 return n;
             }
             n = wrapping_add_u32(n, 1);
-            at = from;
-            same = true;
+            due = true;
         } else {
             same = same & (byte_at(line, at) == byte);
             at = wrapping_add_usize(at, 1);
@@ -92,21 +98,6 @@ pub(crate) fn number_of(line: &[u8], from: usize, to: usize, list: &[u8]) -> u32
     }
     n
 }
-
-// The first figures of a line whose name ends at a place; 0 where the line has no more.
-pub(crate) fn figures(line: &[u8], name: usize) -> [u32; 32] {
-    let mut all = [0u32; 32];
-    let mut i: usize = 0;
-    while i < 32 {
-        let figure = words::read(line, wrapping_add_usize(name, i * 9 + 1));
-        all[i] = figure.bits;
-        i += 1;
-    }
-    all
-}
-
-// The most samples that a frame can have.
-pub const MOST: usize = 3840;
 
 // How many of so many figures follow the first two.
 fn after_two(count: usize) -> usize {
@@ -120,15 +111,6 @@ pub(crate) fn samples_of(count: usize, frame: &[f32]) -> usize
 {
     let n = after_two(count);
     if n <= frame.len() { n } else { frame.len() }
-}
-
-// Whether so many figures are as many as a word takes, which is a frame where the word takes one.
-pub(crate) fn is_due(count: usize, due: usize, frame: bool) -> bool {
-    if frame {
-        (2 <= count) & (count <= MOST + 2)
-    } else {
-        count == due
-    }
 }
 
 // Fills a frame with the figures of a line from a place on.
@@ -174,11 +156,8 @@ pub(crate) fn put_figures(
     to
 }
 
-// Puts each sample of a frame, if that is asked for, and answers the place after them.
-pub(crate) fn put_samples(out: &mut [u8], at: usize, frame: &[f32], sound: bool) -> usize {
-    if !sound {
-        return at;
-    }
+// Puts each sample of a frame, and answers the place after them.
+pub(crate) fn put_samples(out: &mut [u8], at: usize, frame: &[f32]) -> usize {
     let mut to = at;
     let mut i = 0;
     while i < frame.len() {

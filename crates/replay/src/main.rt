@@ -23,8 +23,8 @@ const LONGEST_LINE: usize = 35200;
 // So many bytes of answers may wait, so that one more answer fits behind them into 65,536 bytes.
 const ENOUGH: usize = 30000;
 
-// The states of all parts, as figures: src/desk.rt. There is room for more.
-const FIGURES: usize = 128;
+// The figures of the desk: src/desk.rt. There is room for more parts.
+const FIGURES: usize = 256;
 
 // How far the run is: how many bytes of the line that is being read are kept, how many bytes of
 // answers wait to be written, and whether there may be more to read.

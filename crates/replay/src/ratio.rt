@@ -1,25 +1,16 @@
-// Decibels to a ratio.
+// Decibels to a ratio. It has no state, and one result: the ratio.
 //
-//   ratio X           reply, ratio
+//   ratio X
 
-use crate::desk;
-use crate::desk::Said;
+use crate::desk::ASKED;
+use crate::desk::RESULTS;
 use crate::figures;
-use crate::lines;
-use crate::lines::Asked;
 use units::kinds::Db;
 
-pub(crate) fn answer(line: &[u8], asked: Asked, all: &[u32], told: &mut [u32]) -> Said {
-    let word = lines::number_of(line, asked.part, asked.name, b" ");
-    if (word == 0) & (asked.count == 1) {
-        let a = decibels::ratio(Db(figures::float(all, 0, 0)));
-        figures::put_float(told, 0, 0, a.ratio);
-        Said {
-            reply: a.reply,
-            results: 1,
-            sound: false,
-        }
-    } else {
-        desk::no_question()
-    }
+// Answers the question that lies on the desk.
+pub(crate) fn answer(desk: &mut [u32]) -> u32 {
+    let a = decibels::ratio(Db(figures::float(desk, ASKED, 0)));
+    let told = [1, words::bits_of(a.ratio)];
+    figures::put(desk, RESULTS, &told);
+    a.reply
 }

@@ -1,77 +1,41 @@
-// The ring of recent peaks. Its state is six figures: the place, the size and the four that are stored.
-// Two results follow, which are 0 where nothing else is said of them.
+// The ring of recent peaks.
 //
 //   ring.new
-//   ring.set STATE            the ring with this place, this size and these stored figures
-//   ring.passes               whether it passes
-//   ring.capacity             how many peaks a ring can hold
+//   ring.set STATE            the ring with this state
 //   ring.push X
 //   ring.reset
-//   ring.front                0 for none and 1 for the oldest; the oldest
-//   ring.size                 how many peaks there are
 //   ring.keep                 a copy is put aside
-//   ring.equals               whether it equals the one that was put aside
+//
+// Each answer shows the state, which is six figures (the place, the size and the four that are stored);
+// whether it passes; how many peaks a ring can hold; the oldest (a reply, 0 for none and 1 for one, and
+// its value); how many peaks there are (a reply and the number); and whether it equals the one that was
+// put aside (a reply and a bool).
 
-use crate::desk;
-use crate::desk::Said;
+use crate::desk::ASKED;
 use crate::figures;
-use crate::lines;
-use crate::lines::Asked;
 use crate::numbers;
 use saturation_protector_buffer::Front;
-use saturation_protector_buffer::Next;
 use saturation_protector_buffer::Ring;
 use units::kinds::Dbfs;
 use units::replies::DONE;
 
-// Where the state stands on the desk. The ring that is put aside stands after it.
-pub const FROM: usize = 0;
+// Where the figures stand on the desk, and those of the ring that is put aside.
+pub const FROM: usize = 64;
 
-pub const SIZE: usize = 6;
+pub const SHOWN: usize = 15;
 
-const ASIDE: usize = 6;
+const ASIDE: usize = 79;
 
-// The words, by their numbers in the list below.
-const NEW: u32 = 0;
+// The words, by their numbers in the list of src/desk.rt.
+pub const FIRST: u32 = 1;
 
-const SET: u32 = 1;
+const NEW: u32 = 1;
 
-const PASSES: u32 = 2;
+const SET: u32 = 2;
 
-const CAPACITY: u32 = 3;
+const PUSH: u32 = 3;
 
-const PUSH: u32 = 4;
-
-const RESET: u32 = 5;
-
-const FRONT: u32 = 6;
-
-const COUNT: u32 = 7;
-
-const KEEP: u32 = 8;
-
-const EQUALS: u32 = 9;
-
-const NONE: u32 = 10;
-
-// A reply and two results.
-struct Told {
-    reply: u32,
-    first: u32,
-    second: u32,
-}
-
-// The word, where it has as many figures as it takes.
-fn word_of(line: &[u8], asked: Asked) -> u32 {
-    let word = lines::number_of(
-        line,
-        asked.part,
-        asked.name,
-        b".new .set .passes .capacity .push .reset .front .size .keep .equals ",
-    );
-    let due = numbers::pick(word == SET, SIZE, numbers::pick(word == PUSH, 1, 0));
-    if asked.count == due { word } else { NONE }
-}
+const RESET: u32 = 4;
 
 // The ring whose figures stand at a place.
 fn read(all: &[u32], from: usize) -> Ring {
@@ -87,116 +51,83 @@ fn read(all: &[u32], from: usize) -> Ring {
     }
 }
 
-// Stores a ring's figures at a place.
-fn write(all: &mut [u32], from: usize, ring: Ring) {
+// The oldest peak: its value, or 0.
+fn value(front: Front) -> u32 {
+    match front {
+        Front::None => 0,
+        Front::Oldest(x) => words::bits_of(x.0),
+    }
+}
+
+// Whether there is one.
+fn case(front: Front) -> u32 {
+    match front {
+        Front::None => 0,
+        Front::Oldest(_) => 1,
+    }
+}
+
+// The figures that are shown of a ring.
+fn shown(ring: Ring, aside: Ring) -> [u32; 15] {
     let stored = ring.stored;
-    figures::put_count(all, from, 0, ring.place);
-    figures::put_count(all, from, 1, ring.size);
-    figures::put_float(all, from, 2, stored[0]);
-    figures::put_float(all, from, 3, stored[1]);
-    figures::put_float(all, from, 4, stored[2]);
-    figures::put_float(all, from, 5, stored[3]);
+    let oldest = ring.front();
+    let front = oldest.front;
+    let size = ring.size();
+    let same = ring.equals(aside);
+    [
+        numbers::low(ring.place as u64),
+        numbers::low(ring.size as u64),
+        words::bits_of(stored[0]),
+        words::bits_of(stored[1]),
+        words::bits_of(stored[2]),
+        words::bits_of(stored[3]),
+        numbers::flag(ring.passes()),
+        numbers::low(saturation_protector_buffer::capacity() as u64),
+        oldest.reply,
+        case(front),
+        value(front),
+        size.reply,
+        numbers::low(size.size as u64),
+        same.reply,
+        numbers::flag(same.equal),
+    ]
 }
 
-// The ring after a word, with the reply where the word changes it.
-fn next(ring: Ring, word: u32, all: &[u32]) -> Next {
+// Leaves a ring's figures on the desk, and answers the reply.
+fn leave(desk: &mut [u32], reply: u32, ring: Ring) -> u32 {
+    let aside = read(desk, ASIDE);
+    let all = shown(ring, aside);
+    figures::put(desk, FROM, &all);
+    reply
+}
+
+// Puts a ring aside.
+fn keep(desk: &mut [u32], ring: Ring) -> u32 {
+    let all = shown(ring, ring);
+    figures::put(desk, FROM, &all);
+    figures::put(desk, ASIDE, &all);
+    DONE
+}
+
+// Answers the question that lies on the desk.
+pub(crate) fn answer(word: u32, desk: &mut [u32]) -> u32 {
+    let ring = read(desk, FROM);
     if word == NEW {
-        Next {
-            reply: DONE,
-            ring: Ring::new(),
-        }
-    } else if word == SET {
-        Next {
-            reply: DONE,
-            ring: read(all, 0),
-        }
-    } else if word == PUSH {
-        ring.push_back(Dbfs(figures::float(all, 0, 0)))
-    } else if word == RESET {
-        ring.reset()
-    } else {
-        Next { reply: DONE, ring }
+        return leave(desk, DONE, Ring::new());
     }
-}
-
-// The oldest peak, by the number of its case and its value.
-fn oldest(ring: Ring) -> Told {
-    let a = ring.front();
-    let found = a.front;
-    match found {
-        Front::None => Told {
-            reply: a.reply,
-            first: 0,
-            second: 0,
-        },
-        Front::Oldest(x) => Told {
-            reply: a.reply,
-            first: 1,
-            second: words::bits_of(x.0),
-        },
+    if word == SET {
+        let given = read(desk, ASKED);
+        return leave(desk, DONE, given);
     }
-}
-
-// What a word says of the ring after it, and of the one that was put aside.
-fn results(ring: Ring, aside: Ring, word: u32, reply: u32) -> Told {
-    if word == PASSES {
-        Told {
-            reply,
-            first: numbers::flag(ring.passes()),
-            second: 0,
-        }
-    } else if word == CAPACITY {
-        Told {
-            reply,
-            first: numbers::low(saturation_protector_buffer::capacity() as u64),
-            second: 0,
-        }
-    } else if word == FRONT {
-        oldest(ring)
-    } else if word == COUNT {
-        let a = ring.size();
-        Told {
-            reply: a.reply,
-            first: numbers::low(a.size as u64),
-            second: 0,
-        }
-    } else if word == EQUALS {
-        let a = ring.equals(aside);
-        Told {
-            reply: a.reply,
-            first: numbers::flag(a.equal),
-            second: 0,
-        }
-    } else {
-        Told {
-            reply,
-            first: 0,
-            second: 0,
-        }
+    if word == PUSH {
+        let a = ring.push_back(Dbfs(figures::float(desk, ASKED, 0)));
+        let after = a.ring;
+        return leave(desk, a.reply, after);
     }
-}
-
-pub(crate) fn answer(
-    line: &[u8],
-    asked: Asked,
-    all: &[u32],
-    desk: &mut [u32],
-    told: &mut [u32],
-) -> Said {
-    let word = word_of(line, asked);
-    if word == NONE {
-        return desk::no_question();
+    if word == RESET {
+        let a = ring.reset();
+        let after = a.ring;
+        return leave(desk, a.reply, after);
     }
-    let a = next(read(desk, FROM), word, all);
-    let after = a.ring;
-    let r = results(after, read(desk, ASIDE), word, a.reply);
-    write(desk, FROM, after);
-    write(desk, numbers::pick(word == KEEP, ASIDE, FROM), after);
-    figures::put_word(told, 0, 0, r.first);
-    figures::put_word(told, 0, 1, r.second);
-    Said {
-        reply: r.reply,
-        results: 2,
-        sound: false,
-    }
+    keep(desk, ring)
 }

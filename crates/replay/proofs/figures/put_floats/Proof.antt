@@ -7,22 +7,28 @@ use Rattle.replay.proofs.figures.put_floats.Statement.{statement}
 use Rattle.replay.proofs.figures.put_floats.Tie as tie
 
 abbrev Inv-loop : tie.InvT-loop
-Inv-loop all₀ values i₀ all i = (i ≤ length values) × (length all ≡ length all₀)
+Inv-loop all₀ from some i₀ all i = (i ≤ length some) × (length all ≡ length all₀)
 
 abbrev μ-loop : tie.MeasureT-loop
-μ-loop all₀ values i₀ all i = length values - i
+μ-loop all₀ from some i₀ all i = length some - i
 
 loop-holds : tie.Need-loop-holds Inv-loop μ-loop
 loop-holds c = search needs
 
-mul-put-float : tie.Need-mul-put-float Inv-loop μ-loop
-mul-put-float c = search needs
+wrapping-add-usize-requires : tie.Need-wrapping-add-usize-requires Inv-loop μ-loop
+wrapping-add-usize-requires c κs = search needs
 
-shared-slice-read-put-float : tie.Need-shared-slice-read-put-float Inv-loop μ-loop
-shared-slice-read-put-float c = search needs
+mul-bits-of : tie.Need-mul-bits-of Inv-loop μ-loop
+mul-bits-of c = search needs
 
-put-float-requires : tie.Need-put-float-requires Inv-loop μ-loop
-put-float-requires c κs = search needs
+shared-slice-read-bits-of : tie.Need-shared-slice-read-bits-of Inv-loop μ-loop
+shared-slice-read-bits-of c = search needs
+
+bits-of-requires : tie.Need-bits-of-requires Inv-loop μ-loop
+bits-of-requires c κs = search needs
+
+store-requires : tie.Need-store-requires Inv-loop μ-loop
+store-requires c κs = search needs
 
 add-i : tie.Need-add-i Inv-loop μ-loop
 add-i c = search needs
@@ -46,9 +52,11 @@ put-floats-spec =
     Inv-loop
     μ-loop
     loop-holds
-    mul-put-float
-    shared-slice-read-put-float
-    put-float-requires
+    wrapping-add-usize-requires
+    mul-bits-of
+    shared-slice-read-bits-of
+    bits-of-requires
+    store-requires
     add-i
     loop-less
     loop-again

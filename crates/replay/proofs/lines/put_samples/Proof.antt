@@ -7,13 +7,10 @@ use Rattle.replay.proofs.lines.put_samples.Statement.{statement}
 use Rattle.replay.proofs.lines.put_samples.Tie as tie
 
 abbrev Inv-loop : tie.InvT-loop
-Inv-loop out₀ at frame sound to₀ i₀ out to i = (i ≤ length frame) × (length out ≡ length out₀)
+Inv-loop out₀ at frame to₀ i₀ out to i = (i ≤ length frame) × (length out ≡ length out₀)
 
 abbrev μ-loop : tie.MeasureT-loop
-μ-loop out₀ at frame sound to₀ i₀ out to i = length frame - i
-
-returns : tie.Need-returns Inv-loop μ-loop
-returns c = search needs
+μ-loop out₀ at frame to₀ i₀ out to i = length frame - i
 
 loop-holds : tie.Need-loop-holds Inv-loop μ-loop
 loop-holds c = search needs
@@ -42,8 +39,8 @@ loop-again c = search needs
 same-length : tie.Need-same-length Inv-loop μ-loop
 same-length c = search needs
 
-returns-2 : tie.Need-returns-2 Inv-loop μ-loop
-returns-2 c = search needs
+returns : tie.Need-returns Inv-loop μ-loop
+returns c = search needs
 
 pub put-samples-spec : {M : Type 1} → statement M
 put-samples-spec =
@@ -51,7 +48,6 @@ put-samples-spec =
     (tie.spec
     Inv-loop
     μ-loop
-    returns
     loop-holds
     mul-bits-of
     shared-slice-read-bits-of
@@ -61,4 +57,4 @@ put-samples-spec =
     loop-less
     loop-again
     same-length
-    returns-2)
+    returns)
