@@ -32,7 +32,7 @@ const FACTOR: u32 = 17;
 pub const APPLY: u32 = 18;
 
 // The applier whose figures stand at a place.
-pub(crate) fn read(all: &[u32], from: usize) -> Applier {
+fn read(all: &[u32], from: usize) -> Applier {
     Applier {
         clip: figures::flag(all, from, 0),
         last: figures::float(all, from, 1),
@@ -43,7 +43,7 @@ pub(crate) fn read(all: &[u32], from: usize) -> Applier {
 }
 
 // The figures that are shown of an applier.
-pub(crate) fn shown(applier: Applier) -> [u32; 8] {
+fn shown(applier: Applier) -> [u32; 8] {
     let told = applier.get_gain_factor();
     [
         numbers::flag(applier.clip),
@@ -64,34 +64,45 @@ fn leave(desk: &mut [u32], reply: u32, applier: Applier) -> u32 {
     reply
 }
 
-// Puts the gain on a frame, and answers the reply.
-fn apply(desk: &mut [u32], applier: Applier, frame: &mut [f32]) -> u32 {
+// applier.new
+fn new(desk: &mut [u32]) -> u32 {
+    let clip = figures::flag(desk, ASKED, 0);
+    let a = Applier::new(clip, figures::float(desk, ASKED, 1));
+    let made = a.applier;
+    leave(desk, a.reply, made)
+}
+
+// applier.set
+fn set(desk: &mut [u32]) -> u32 {
+    let given = read(desk, ASKED);
+    leave(desk, DONE, given)
+}
+
+// applier.factor
+fn factor(desk: &mut [u32]) -> u32 {
+    let a = read(desk, FROM).set_gain_factor(figures::float(desk, ASKED, 0));
+    let after = a.applier;
+    leave(desk, a.reply, after)
+}
+
+// applier.apply
+fn apply(desk: &mut [u32], frame: &mut [f32]) -> u32 {
     let channels = figures::count(desk, ASKED, 0);
     let samples = figures::count(desk, ASKED, 1);
-    let a = applier.apply_gain(frame, channels, samples);
+    let a = read(desk, FROM).apply_gain(frame, channels, samples);
     let after = a.applier;
     leave(desk, a.reply, after)
 }
 
 // Answers the question that lies on the desk.
 pub(crate) fn answer(word: u32, desk: &mut [u32], frame: &mut [f32]) -> u32 {
-    let applier = read(desk, FROM);
     if word == NEW {
-        let a = Applier::new(
-            figures::flag(desk, ASKED, 0),
-            figures::float(desk, ASKED, 1),
-        );
-        let after = a.applier;
-        return leave(desk, a.reply, after);
+        new(desk)
+    } else if word == SET {
+        set(desk)
+    } else if word == FACTOR {
+        factor(desk)
+    } else {
+        apply(desk, frame)
     }
-    if word == SET {
-        let given = read(desk, ASKED);
-        return leave(desk, DONE, given);
-    }
-    if word == FACTOR {
-        let a = applier.set_gain_factor(figures::float(desk, ASKED, 0));
-        let after = a.applier;
-        return leave(desk, a.reply, after);
-    }
-    apply(desk, applier, frame)
 }

@@ -46,7 +46,7 @@ pub(crate) fn read(all: &[u32], from: usize) -> Curve {
 }
 
 // The figures that are shown of a curve, with a gain.
-pub(crate) fn shown(curve: Curve, gain: f32) -> [u32; 14] {
+fn shown(curve: Curve, gain: f32) -> [u32; 14] {
     let lasts = numbers::unsigned(curve.duration);
     [
         numbers::high(curve.identity),
@@ -66,37 +66,51 @@ pub(crate) fn shown(curve: Curve, gain: f32) -> [u32; 14] {
     ]
 }
 
+// Stores the figures that are shown of a curve, from a place on.
+pub(crate) fn put(desk: &mut [u32], from: usize, curve: Curve, gain: f32) {
+    let all = shown(curve, gain);
+    figures::put(desk, from, &all);
+}
+
 // Leaves a curve's figures on the desk, and answers the reply.
 fn leave(desk: &mut [u32], reply: u32, curve: Curve, gain: f32) -> u32 {
-    let all = shown(curve, gain);
-    figures::put(desk, FROM, &all);
+    put(desk, FROM, curve, gain);
     reply
 }
 
-// Tells the statistics that the call gives, and answers its reply.
-fn stats(desk: &mut [u32], curve: Curve) -> u32 {
+// curve.set
+fn set(desk: &mut [u32]) -> u32 {
+    let given = read(desk, ASKED);
+    leave(desk, DONE, given, 0.0)
+}
+
+// curve.level
+fn level(desk: &mut [u32]) -> u32 {
+    let level = LinearS16(figures::float(desk, ASKED, 0));
+    let a = read(desk, FROM).look_up_gain_to_apply(level);
+    let after = a.curve;
+    leave(desk, a.reply, after, a.gain)
+}
+
+// curve.stats
+fn stats(desk: &mut [u32]) -> u32 {
+    let curve = read(desk, FROM);
     let a = curve.get_stats();
     let given = a.stats;
-    let all = shown(given, 0.0);
-    figures::put(desk, TOLD, &all);
+    put(desk, TOLD, given, 0.0);
     figures::store(desk, RESULTS, 12);
     leave(desk, a.reply, curve, 0.0)
 }
 
 // Answers the question that lies on the desk.
 pub(crate) fn answer(word: u32, desk: &mut [u32]) -> u32 {
-    let curve = read(desk, FROM);
     if word == NEW {
-        return leave(desk, DONE, Curve::new(), 0.0);
+        leave(desk, DONE, Curve::new(), 0.0)
+    } else if word == SET {
+        set(desk)
+    } else if word == LEVEL {
+        level(desk)
+    } else {
+        stats(desk)
     }
-    if word == SET {
-        let given = read(desk, ASKED);
-        return leave(desk, DONE, given, 0.0);
-    }
-    if word == LEVEL {
-        let a = curve.look_up_gain_to_apply(LinearS16(figures::float(desk, ASKED, 0)));
-        let after = a.curve;
-        return leave(desk, a.reply, after, a.gain);
-    }
-    stats(desk, curve)
 }

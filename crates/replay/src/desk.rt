@@ -147,15 +147,10 @@ fn answer_in(
 }
 
 // Answers a line: puts the answer at a place of a buffer, and answers the place after it.
-pub(crate) fn answer(
-    line: &[u8],
-    desk: &mut [u32],
-    frame: &mut [f32],
-    out: &mut [u8],
-    at: usize,
-) -> usize {
+pub(crate) fn answer(line: &[u8], desk: &mut [u32], out: &mut [u8], at: usize) -> usize {
     let asked = lines::split(line);
     let word = word_of(line, asked);
-    let n = lines::samples_of(numbers::pick(is_sound(word), asked.count, 0), frame);
+    let mut frame = [0.0f32; lines::MOST];
+    let n = lines::samples_of(numbers::pick(is_sound(word), asked.count, 0), &frame);
     answer_in(line, asked.name, word, desk, &mut frame[..n], out, at)
 }

@@ -45,7 +45,7 @@ pub(crate) fn read(all: &[u32], from: usize) -> Estimator {
 }
 
 // The figures that are shown of an estimator.
-pub(crate) fn shown(estimator: Estimator) -> [u32; 6] {
+fn shown(estimator: Estimator) -> [u32; 6] {
     let heard = estimator.last_audio_level();
     let level = heard.level;
     [
@@ -58,47 +58,68 @@ pub(crate) fn shown(estimator: Estimator) -> [u32; 6] {
     ]
 }
 
+// Stores the figures that are shown of an estimator, from a place on.
+pub(crate) fn put(desk: &mut [u32], from: usize, estimator: Estimator) {
+    let all = shown(estimator);
+    figures::put(desk, from, &all);
+}
+
 // Leaves an estimator's figures on the desk, and answers the reply.
 fn leave(desk: &mut [u32], reply: u32, estimator: Estimator) -> u32 {
-    let all = shown(estimator);
-    figures::put(desk, FROM, &all);
+    put(desk, FROM, estimator);
     reply
 }
 
-// Asks for the envelope of a frame and tells it, and answers the reply.
-fn level(desk: &mut [u32], estimator: Estimator, frame: &[f32]) -> u32 {
+// estimator.new
+fn new(desk: &mut [u32]) -> u32 {
+    let a = Estimator::new(figures::count(desk, ASKED, 0));
+    let made = a.estimator;
+    leave(desk, a.reply, made)
+}
+
+// estimator.set
+fn set(desk: &mut [u32]) -> u32 {
+    let given = read(desk, ASKED);
+    leave(desk, DONE, given)
+}
+
+// estimator.samples
+fn samples(desk: &mut [u32]) -> u32 {
+    let a = read(desk, FROM).set_samples_per_channel(figures::count(desk, ASKED, 0));
+    let after = a.estimator;
+    leave(desk, a.reply, after)
+}
+
+// estimator.reset
+fn reset(desk: &mut [u32]) -> u32 {
+    let a = read(desk, FROM).reset();
+    let after = a.estimator;
+    leave(desk, a.reply, after)
+}
+
+// estimator.level
+fn level(desk: &mut [u32], frame: &[f32]) -> u32 {
     let channels = figures::count(desk, ASKED, 0);
     let samples = figures::count(desk, ASKED, 1);
-    let a = estimator.compute_level(frame, channels, samples);
+    let a = read(desk, FROM).compute_level(frame, channels, samples);
+    let after = a.estimator;
     let envelope = a.envelope;
     figures::put_floats(desk, TOLD, &envelope);
     figures::store(desk, RESULTS, 20);
-    let after = a.estimator;
     leave(desk, a.reply, after)
 }
 
 // Answers the question that lies on the desk.
 pub(crate) fn answer(word: u32, desk: &mut [u32], frame: &[f32]) -> u32 {
-    let estimator = read(desk, FROM);
-    let samples = figures::count(desk, ASKED, 0);
     if word == NEW {
-        let a = Estimator::new(samples);
-        let after = a.estimator;
-        return leave(desk, a.reply, after);
+        new(desk)
+    } else if word == SET {
+        set(desk)
+    } else if word == SAMPLES {
+        samples(desk)
+    } else if word == RESET {
+        reset(desk)
+    } else {
+        level(desk, frame)
     }
-    if word == SET {
-        let given = read(desk, ASKED);
-        return leave(desk, DONE, given);
-    }
-    if word == SAMPLES {
-        let a = estimator.set_samples_per_channel(samples);
-        let after = a.estimator;
-        return leave(desk, a.reply, after);
-    }
-    if word == RESET {
-        let a = estimator.reset();
-        let after = a.estimator;
-        return leave(desk, a.reply, after);
-    }
-    level(desk, estimator, frame)
 }

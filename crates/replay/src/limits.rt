@@ -54,58 +54,77 @@ fn read(all: &[u32], from: usize) -> Limiter {
     }
 }
 
-// Leaves a limiter's figures on the desk, and answers the reply. What is shown of a part behind its
-// state is overwritten by what comes next.
-fn leave(desk: &mut [u32], reply: u32, limiter: Limiter) -> u32 {
+// The figures that are shown of a limiter behind its state.
+fn rest(limiter: Limiter) -> [u32; 3] {
     let heard = limiter.last_audio_level();
     let level = heard.level;
-    let estimator = limiter.estimator;
-    let curve = limiter.curve;
-    let first = estimator::shown(estimator);
-    let second = curve::shown(curve, 0.0);
-    let third = [
+    [
         numbers::flag(limiter.passes()),
         heard.reply,
         words::bits_of(level.0),
-    ];
+    ]
+}
+
+// Leaves a limiter's figures on the desk, and answers the reply. What is shown of a part behind its
+// state is overwritten by what comes next.
+fn leave(desk: &mut [u32], reply: u32, limiter: Limiter) -> u32 {
+    let estimator = limiter.estimator;
+    let curve = limiter.curve;
+    let last = rest(limiter);
     figures::store(desk, FROM, words::bits_of(limiter.carried));
-    figures::put(desk, ESTIMATOR, &first);
-    figures::put(desk, CURVE, &second);
-    figures::put(desk, REST, &third);
+    estimator::put(desk, ESTIMATOR, estimator);
+    curve::put(desk, CURVE, curve, 0.0);
+    figures::put(desk, REST, &last);
     reply
 }
 
-// Limits a frame, and answers the reply.
-fn process(desk: &mut [u32], limiter: Limiter, frame: &mut [f32]) -> u32 {
+// limiter.new
+fn new(desk: &mut [u32]) -> u32 {
+    let a = Limiter::new(figures::count(desk, ASKED, 0));
+    let made = a.limiter;
+    leave(desk, a.reply, made)
+}
+
+// limiter.set
+fn set(desk: &mut [u32]) -> u32 {
+    let given = read(desk, ASKED);
+    leave(desk, DONE, given)
+}
+
+// limiter.samples
+fn samples(desk: &mut [u32]) -> u32 {
+    let a = read(desk, FROM).set_samples_per_channel(figures::count(desk, ASKED, 0));
+    let after = a.limiter;
+    leave(desk, a.reply, after)
+}
+
+// limiter.reset
+fn reset(desk: &mut [u32]) -> u32 {
+    let a = read(desk, FROM).reset();
+    let after = a.limiter;
+    leave(desk, a.reply, after)
+}
+
+// limiter.process
+fn process(desk: &mut [u32], frame: &mut [f32]) -> u32 {
     let channels = figures::count(desk, ASKED, 0);
     let samples = figures::count(desk, ASKED, 1);
-    let a = limiter.process(frame, channels, samples);
+    let a = read(desk, FROM).process(frame, channels, samples);
     let after = a.limiter;
     leave(desk, a.reply, after)
 }
 
 // Answers the question that lies on the desk.
 pub(crate) fn answer(word: u32, desk: &mut [u32], frame: &mut [f32]) -> u32 {
-    let limiter = read(desk, FROM);
-    let samples = figures::count(desk, ASKED, 0);
     if word == NEW {
-        let a = Limiter::new(samples);
-        let after = a.limiter;
-        return leave(desk, a.reply, after);
+        new(desk)
+    } else if word == SET {
+        set(desk)
+    } else if word == SAMPLES {
+        samples(desk)
+    } else if word == RESET {
+        reset(desk)
+    } else {
+        process(desk, frame)
     }
-    if word == SET {
-        let given = read(desk, ASKED);
-        return leave(desk, DONE, given);
-    }
-    if word == SAMPLES {
-        let a = limiter.set_samples_per_channel(samples);
-        let after = a.limiter;
-        return leave(desk, a.reply, after);
-    }
-    if word == RESET {
-        let a = limiter.reset();
-        let after = a.limiter;
-        return leave(desk, a.reply, after);
-    }
-    process(desk, limiter, frame)
 }

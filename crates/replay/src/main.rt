@@ -70,29 +70,15 @@ fn place(out: &[u8], waiting: usize) -> usize {
 }
 
 // Answers the line that is kept, behind the answers that wait, and answers how many bytes wait then.
-fn reply(
-    line: &[u8],
-    kept: usize,
-    desk: &mut [u32],
-    frame: &mut [f32],
-    out: &mut [u8],
-    waiting: usize,
-) -> usize {
+fn reply(line: &[u8], kept: usize, desk: &mut [u32], out: &mut [u8], waiting: usize) -> usize {
     let n = within(kept, line);
     let at = place(out, waiting);
-    desk::answer(&line[..n], desk, frame, out, at)
+    desk::answer(&line[..n], desk, out, at)
 }
 
 // Takes the bytes that were read, one after the other: a line feed ends the line, which is answered,
 // and any other byte is kept. There may be more to read where some came.
-fn feed(
-    input: &[u8],
-    line: &mut [u8],
-    desk: &mut [u32],
-    frame: &mut [f32],
-    out: &mut [u8],
-    run: Run,
-) -> Run {
+fn feed(input: &[u8], line: &mut [u8], desk: &mut [u32], out: &mut [u8], run: Run) -> Run {
     let mut kept = run.kept;
     let mut waiting = run.waiting;
     let mut i = 0;
@@ -100,7 +86,7 @@ fn feed(
         let byte = input[i];
         i += 1;
         if byte == b'\n' {
-            waiting = reply(line, kept, desk, frame, out, waiting);
+            waiting = reply(line, kept, desk, out, waiting);
             kept = 0;
         } else {
             kept = keep(line, kept, byte);
@@ -114,16 +100,16 @@ fn feed(
 }
 
 // Reads once, and goes over what came: nothing, at the end of the input and where a read fails.
-fn turn(line: &mut [u8], desk: &mut [u32], frame: &mut [f32], out: &mut [u8], run: Run) -> Run {
+fn turn(line: &mut [u8], desk: &mut [u32], out: &mut [u8], run: Run) -> Run {
     let mut input = io::large_buffer();
     let got = libc::read(libc::STDIN_FILENO, &mut input);
     let n = io::count(got, &input);
-    feed(&input[..n], line, desk, frame, out, run)
+    feed(&input[..n], line, desk, out, run)
 }
 
 // Reads to the end. A proved loop has to end, and nothing says that the input does: so the loop
 // counts its turns down, from a number that no run uses up.
-fn read_all(line: &mut [u8], desk: &mut [u32], frame: &mut [f32], out: &mut [u8]) -> Run {
+fn read_all(line: &mut [u8], desk: &mut [u32], out: &mut [u8]) -> Run {
     let mut run = Run {
         kept: 0,
         waiting: 0,
@@ -131,7 +117,7 @@ fn read_all(line: &mut [u8], desk: &mut [u32], frame: &mut [f32], out: &mut [u8]
     };
     let mut turns = u64::MAX;
     while turns > 0 && run.more {
-        run = turn(line, desk, frame, out, run);
+        run = turn(line, desk, out, run);
         turns -= 1;
     }
     run
@@ -150,8 +136,7 @@ fn finish(out: &mut [u8], kept: usize, waiting: usize) {
 fn main() {
     let mut line = [0u8; LONGEST_LINE];
     let mut desk = [0u32; FIGURES];
-    let mut frame = [0.0f32; lines::MOST];
     let mut out = io::large_buffer();
-    let run = read_all(&mut line, &mut desk, &mut frame, &mut out);
+    let run = read_all(&mut line, &mut desk, &mut out);
     finish(&mut out, run.kept, run.waiting);
 }

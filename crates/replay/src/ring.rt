@@ -101,33 +101,45 @@ fn leave(desk: &mut [u32], reply: u32, ring: Ring) -> u32 {
     reply
 }
 
-// Puts a ring aside.
-fn keep(desk: &mut [u32], ring: Ring) -> u32 {
+// ring.set
+fn set(desk: &mut [u32]) -> u32 {
+    let given = read(desk, ASKED);
+    leave(desk, DONE, given)
+}
+
+// ring.push
+fn push(desk: &mut [u32]) -> u32 {
+    let a = read(desk, FROM).push_back(Dbfs(figures::float(desk, ASKED, 0)));
+    let after = a.ring;
+    leave(desk, a.reply, after)
+}
+
+// ring.reset
+fn reset(desk: &mut [u32]) -> u32 {
+    let a = read(desk, FROM).reset();
+    let after = a.ring;
+    leave(desk, a.reply, after)
+}
+
+// ring.keep
+fn keep(desk: &mut [u32]) -> u32 {
+    let ring = read(desk, FROM);
     let all = shown(ring, ring);
-    figures::put(desk, FROM, &all);
     figures::put(desk, ASIDE, &all);
-    DONE
+    leave(desk, DONE, ring)
 }
 
 // Answers the question that lies on the desk.
 pub(crate) fn answer(word: u32, desk: &mut [u32]) -> u32 {
-    let ring = read(desk, FROM);
     if word == NEW {
-        return leave(desk, DONE, Ring::new());
+        leave(desk, DONE, Ring::new())
+    } else if word == SET {
+        set(desk)
+    } else if word == PUSH {
+        push(desk)
+    } else if word == RESET {
+        reset(desk)
+    } else {
+        keep(desk)
     }
-    if word == SET {
-        let given = read(desk, ASKED);
-        return leave(desk, DONE, given);
-    }
-    if word == PUSH {
-        let a = ring.push_back(Dbfs(figures::float(desk, ASKED, 0)));
-        let after = a.ring;
-        return leave(desk, a.reply, after);
-    }
-    if word == RESET {
-        let a = ring.reset();
-        let after = a.ring;
-        return leave(desk, a.reply, after);
-    }
-    keep(desk, ring)
 }

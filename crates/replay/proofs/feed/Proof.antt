@@ -7,10 +7,10 @@ use Rattle.replay.proofs.feed.Statement.{statement}
 use Rattle.replay.proofs.feed.Tie as tie
 
 abbrev Inv-loop : tie.InvT-loop
-Inv-loop input line₀ desk₀ frame₀ out₀ kept₀ waiting₀ i₀ line desk frame out kept waiting i = (i ≤ length input) × (length line ≡ length line₀) × (length desk ≡ length desk₀) × (length frame ≡ length frame₀) × (length out ≡ length out₀)
+Inv-loop input line₀ desk₀ out₀ kept₀ waiting₀ i₀ line desk out kept waiting i = (i ≤ length input) × (length line ≡ length line₀) × (length desk ≡ length desk₀) × (length out ≡ length out₀)
 
 abbrev μ-loop : tie.MeasureT-loop
-μ-loop input line₀ desk₀ frame₀ out₀ kept₀ waiting₀ i₀ line desk frame out kept waiting i = length input - i
+μ-loop input line₀ desk₀ out₀ kept₀ waiting₀ i₀ line desk out kept waiting i = length input - i
 
 loop-holds : tie.Need-loop-holds Inv-loop μ-loop
 loop-holds c = search needs
@@ -48,9 +48,6 @@ same-length-2 c = search needs
 same-length-3 : tie.Need-same-length-3 Inv-loop μ-loop
 same-length-3 c = search needs
 
-same-length-4 : tie.Need-same-length-4 Inv-loop μ-loop
-same-length-4 c = search needs
-
 returns : tie.Need-returns Inv-loop μ-loop
 returns c = search needs
 
@@ -72,5 +69,4 @@ feed-spec =
     same-length
     same-length-2
     same-length-3
-    same-length-4
     returns)

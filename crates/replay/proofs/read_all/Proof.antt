@@ -6,10 +6,10 @@ use Rattle.replay.proofs.read_all.Statement.{statement}
 use Rattle.replay.proofs.read_all.Tie as tie
 
 abbrev Inv-loop : tie.InvT-loop
-Inv-loop line₀ desk₀ frame₀ out₀ run₀ turns₀ line desk frame out run turns = (length line ≡ length line₀) × (length desk ≡ length desk₀) × (length frame ≡ length frame₀) × (length out ≡ length out₀)
+Inv-loop line₀ desk₀ out₀ run₀ turns₀ line desk out run turns = (length line ≡ length line₀) × (length desk ≡ length desk₀) × (length out ≡ length out₀)
 
 abbrev μ-loop : tie.MeasureT-loop
-μ-loop line₀ desk₀ frame₀ out₀ run₀ turns₀ line desk frame out run turns = turns
+μ-loop line₀ desk₀ out₀ run₀ turns₀ line desk out run turns = turns
 
 loop-holds : tie.Need-loop-holds Inv-loop μ-loop
 loop-holds c = search needs
@@ -47,12 +47,6 @@ same-length-5 c = search needs
 same-length-6 : tie.Need-same-length-6 Inv-loop μ-loop
 same-length-6 c = search needs
 
-same-length-7 : tie.Need-same-length-7 Inv-loop μ-loop
-same-length-7 c = search needs
-
-same-length-8 : tie.Need-same-length-8 Inv-loop μ-loop
-same-length-8 c = search needs
-
 returns-2 : tie.Need-returns-2 Inv-loop μ-loop
 returns-2 c = search needs
 
@@ -70,10 +64,8 @@ read-all-spec =
     same-length
     same-length-2
     same-length-3
-    same-length-4
     returns
+    same-length-4
     same-length-5
     same-length-6
-    same-length-7
-    same-length-8
     returns-2)
