@@ -43,6 +43,8 @@ const FACTORS: [u32; 22] = [
     0xffff_ffff,
 ];
 const ACCEPTED: u32 = 13;
+const ONE: u32 = 0x3f80_0000;
+const FIVE: u32 = 0x40a0_0000;
 
 #[derive(Clone, Copy, Default)]
 struct State {
@@ -326,10 +328,12 @@ impl Player for Desk {
 fn each_factor(desk: &mut Desk, source: &mut Random, to: Ask) -> bool {
     for clip in [false, true] {
         for factor in FACTORS {
-            for next in [factor, 0x3f80_0000, 0x40a0_0000, factor] {
+            // From the factor to itself, to 1 and to 5; and from 1 and 5 to the factor.
+            let ways = [(factor, factor), (factor, ONE), (factor, FIVE), (ONE, factor), (FIVE, factor)];
+            for (first, next) in ways {
                 let one = sound::frame(3, 1, 40, LARGEST, source);
                 let two = sound::frame(4, 2, 40, LARGEST, source);
-                let going = desk.fresh(clip, factor, to)
+                let going = desk.fresh(clip, first, to)
                     && desk.play(&one, to)
                     && desk.aim(next, to)
                     && desk.play(&two, to)
