@@ -1,0 +1,16 @@
+-- What is true of the definitions beside this file.
+pub mod Tests
+pub mod Oldest
+pub mod Rings
+pub mod Frames
+pub mod Chosen
+pub mod Nan
+pub mod Range
+pub mod Levels
+pub mod Passing
+pub mod Again
+pub mod Pushes
+pub mod Joined
+pub mod Forty
+pub mod Short
+pub mod Outcome
