@@ -9,8 +9,6 @@ use sonora_ruled::gain_applier::GainApplier;
 use sonora_ruled::limiter::Limiter;
 use std::io::{Read, Write};
 
-const SAMPLES: usize = 480;
-
 /// How loud each frame of a syllable is.
 const SYLLABLE: [f32; 16] = [
     0.03125, 0.125, 0.25, 0.5, 1.0, 1.5, 2.0, 1.75, 1.25, 1.0, 0.75, 0.5, 0.25, 0.125, 0.0625, 0.03125,
@@ -64,6 +62,7 @@ struct Ask {
     part: u32,
     sound: u32,
     channels: usize,
+    samples: usize,
     frames: u32,
 }
 
@@ -71,7 +70,7 @@ struct Ask {
 /// Inlined, so that each part has a loop of its own.
 #[inline(always)]
 fn over_frames(ask: &Ask, mut part: impl FnMut(&mut Frame, u32)) -> u32 {
-    let mut frame = vec![vec![0.0; SAMPLES]; ask.channels];
+    let mut frame = vec![vec![0.0; ask.samples]; ask.channels];
     let (mut d, mut seed) = (0, 1);
     for k in 0..ask.frames {
         seed = fill(&mut frame, seed, loudness(ask.sound, k));
@@ -86,7 +85,7 @@ fn nothing(ask: &Ask) -> u32 {
 }
 
 fn estimate(ask: &Ask) -> u32 {
-    let mut estimator = FixedDigitalLevelEstimator::new(SAMPLES);
+    let mut estimator = FixedDigitalLevelEstimator::new(ask.samples);
     let mut levels = [0.0; 20];
     // This one takes a list of slices, which is made anew for each frame.
     let d = over_frames(ask, |frame, _| {
@@ -115,7 +114,7 @@ fn ramp(ask: &Ask, clip: bool, factor: f32) -> u32 {
 }
 
 fn limit(ask: &Ask) -> u32 {
-    let mut limiter = Limiter::new(SAMPLES);
+    let mut limiter = Limiter::new(ask.samples);
     let d = over_frames(ask, |frame, _| limiter.process_owned_signal(frame));
     mix(d, limiter.last_audio_level())
 }
@@ -142,7 +141,8 @@ fn main() {
             part: figures[0],
             sound: figures[1],
             channels: figures[2] as usize,
-            frames: figures[3],
+            samples: figures[3] as usize,
+            frames: figures[4],
         };
         writeln!(std::io::stdout(), "{:08x} 00000000", run(&ask)).unwrap();
     }

@@ -1,10 +1,10 @@
 // Runs one part over many frames of one sound, so that the instructions of a frame can be counted:
 // docs/SPEED.md says how. It counts nothing itself.
 //
-// A line on standard input is four figures of eight hexadecimal digits with one space between them:
-// the part (src/parts.rt), the sound (0 silence, 1 speech), the channels (1 to 8) and the frames. The
-// answer is a line of two figures: a digest of all that the part made, and 1 where it refused a frame.
-// There may be as many lines as fit into 4,096 bytes.
+// A line on standard input is five figures of eight hexadecimal digits with one space between them:
+// the part (src/parts.rt), the sound (0 silence, 1 speech), the channels (1 to 8), the samples of a
+// channel (up to 480) and the frames. The answer is a line of two figures: a digest of all that the
+// part made, and 1 where it refused a frame. There may be as many lines as fit into 4,096 bytes.
 
 mod parts;
 mod sound;
@@ -14,7 +14,7 @@ use parts::Ask;
 use parts::Outcome;
 
 // The bytes of a line, with its line feed.
-const LINE: usize = 36;
+const LINE: usize = 45;
 
 // The figure at a place of the input: 0 where there is none.
 fn figure(input: &[u8], at: usize) -> u32 {
@@ -22,30 +22,29 @@ fn figure(input: &[u8], at: usize) -> u32 {
     word.bits
 }
 
-// As many channels as asked, from 1 to 8.
-fn channels(n: u32) -> usize
-    ensures { λ r. ⌜ r ≤ 8 ⌝ }
+// A size as asked, but no larger than the largest.
+fn at_most(largest: u32, n: u32) -> usize
+    ensures { λ r. ⌜ r ≤ largest ⌝ }
 {
-    if n < 1 {
-        1
-    } else if n < 8 {
+    if n < largest {
         n as usize
     } else {
-        8
+        largest as usize
     }
 }
 
-// What the part that is asked for makes of frames of so many channels.
-fn outcome(part: u32, sound: u32, channels: usize, frames: u32) -> Outcome
-    requires { ⌜ channels ≤ 8 ⌝ }
+// What the part that is asked for makes of frames of that size.
+fn outcome(part: u32, sound: u32, channels: usize, samples: usize, frames: u32) -> Outcome
+    requires { ⌜ (channels ≤ 8) × (samples ≤ 480) ⌝ }
 {
     let mut frame = [0.0; 3840];
     parts::run(
-        &mut frame[..channels * 480],
+        &mut frame[..channels * samples],
         Ask {
             part,
             sound,
             channels,
+            samples,
             frames,
         },
     )
@@ -67,8 +66,9 @@ fn answer(input: &[u8]) {
         let made = outcome(
             figure(input, at),
             figure(input, at + 9),
-            channels(figure(input, at + 18)),
-            figure(input, at + 27),
+            at_most(8, figure(input, at + 18)),
+            at_most(480, figure(input, at + 27)),
+            figure(input, at + 36),
         );
         write(made);
         at += LINE;

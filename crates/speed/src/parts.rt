@@ -9,14 +9,13 @@ use gain_applier::Applier;
 use limiter::Limiter;
 use units::replies::DONE;
 
-// The samples of a channel.
-const SAMPLES: usize = 480;
-
-// What is asked: the part, the sound, the channels and the frames.
+// What is asked: the part, the sound, the channels, the samples of each, and the frames. All of them
+// are read when the program runs, so that no part is compiled for one size.
 pub struct Ask {
     pub part: u32,
     pub sound: u32,
     pub channels: usize,
+    pub samples: usize,
     pub frames: u32,
 }
 
@@ -59,7 +58,7 @@ fn nothing(frame: &mut [f32], ask: Ask) -> Outcome {
 
 // The level estimator. The digest ends with the twenty levels of the last frame.
 fn estimate(frame: &mut [f32], ask: Ask) -> Outcome {
-    let new = Estimator::new(SAMPLES);
+    let new = Estimator::new(ask.samples);
     let mut estimator = new.estimator;
     let mut levels = [0.0; 20];
     let mut digest: u32 = 0;
@@ -71,7 +70,7 @@ fn estimate(frame: &mut [f32], ask: Ask) -> Outcome {
         let number = k;
         k += 1;
         seed = sound::fill(frame, seed, sound::loudness(ask.sound, number));
-        let found = estimator.compute_level(frame, ask.channels, SAMPLES);
+        let found = estimator.compute_level(frame, ask.channels, ask.samples);
         let after = found.estimator;
         let envelope = found.envelope;
         estimator = after;
@@ -98,7 +97,7 @@ fn apply(frame: &mut [f32], ask: Ask, factor: f32) -> Outcome {
         let number = k;
         k += 1;
         seed = sound::fill(frame, seed, sound::loudness(ask.sound, number));
-        let next = applier.apply_gain(frame, ask.channels, SAMPLES);
+        let next = applier.apply_gain(frame, ask.channels, ask.samples);
         let after = next.applier;
         applier = after;
         refused = refused | (next.reply != DONE);
@@ -126,7 +125,7 @@ fn ramp(frame: &mut [f32], ask: Ask, clip: bool, factor: f32) -> Outcome {
         let aim = floats::pick_f32(number % 2 == 0, factor + factor, factor);
         let set = applier.set_gain_factor(aim);
         let aimed = set.applier;
-        let next = aimed.apply_gain(frame, ask.channels, SAMPLES);
+        let next = aimed.apply_gain(frame, ask.channels, ask.samples);
         let after = next.applier;
         applier = after;
         refused = refused | (set.reply != DONE) | (next.reply != DONE);
@@ -140,7 +139,7 @@ fn ramp(frame: &mut [f32], ask: Ask, clip: bool, factor: f32) -> Outcome {
 
 // The limiter. The digest ends with its level.
 fn limit(frame: &mut [f32], ask: Ask) -> Outcome {
-    let new = Limiter::new(SAMPLES);
+    let new = Limiter::new(ask.samples);
     let mut limiter = new.limiter;
     let mut digest: u32 = 0;
     let mut refused = false;
@@ -151,7 +150,7 @@ fn limit(frame: &mut [f32], ask: Ask) -> Outcome {
         let number = k;
         k += 1;
         seed = sound::fill(frame, seed, sound::loudness(ask.sound, number));
-        let next = limiter.process(frame, ask.channels, SAMPLES);
+        let next = limiter.process(frame, ask.channels, ask.samples);
         let after = next.limiter;
         limiter = after;
         refused = refused | (next.reply != DONE);

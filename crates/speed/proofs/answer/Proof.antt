@@ -32,14 +32,23 @@ add-figure-2 c = search needs
 figure-requires-3 : tie.Need-figure-requires-3 Inv-loop μ-loop
 figure-requires-3 c κs = search needs
 
-channels-requires : tie.Need-channels-requires Inv-loop μ-loop
-channels-requires c κs = search needs
+at-most-requires : tie.Need-at-most-requires Inv-loop μ-loop
+at-most-requires c κs = search needs
 
 add-figure-3 : tie.Need-add-figure-3 Inv-loop μ-loop
 add-figure-3 c = search needs
 
 figure-requires-4 : tie.Need-figure-requires-4 Inv-loop μ-loop
 figure-requires-4 c κs = search needs
+
+at-most-requires-2 : tie.Need-at-most-requires-2 Inv-loop μ-loop
+at-most-requires-2 c κs = search needs
+
+add-figure-4 : tie.Need-add-figure-4 Inv-loop μ-loop
+add-figure-4 c = search needs
+
+figure-requires-5 : tie.Need-figure-requires-5 Inv-loop μ-loop
+figure-requires-5 c κs = search needs
 
 outcome-requires : tie.Need-outcome-requires Inv-loop μ-loop
 outcome-requires c κs = search needs
@@ -72,9 +81,12 @@ answer-spec =
     figure-requires-2
     add-figure-2
     figure-requires-3
-    channels-requires
+    at-most-requires
     add-figure-3
     figure-requires-4
+    at-most-requires-2
+    add-figure-4
+    figure-requires-5
     outcome-requires
     write-requires
     add-at
