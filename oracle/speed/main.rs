@@ -126,8 +126,7 @@ fn run(ask: &Ask) -> u32 {
         3 => apply(ask, 0.75),
         4 => ramp(ask, false, 0.5),
         5 => ramp(ask, true, 1.5),
-        // The published limiter is over a lent state: it is the twin of both of ours.
-        6 | 7 => limit(ask),
+        6 => limit(ask),
         _ => nothing(ask),
     }
 }
