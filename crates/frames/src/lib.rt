@@ -1,6 +1,8 @@
 // A frame of sound: one lent f32 buffer, channel after channel. Its shape and its samples are
 // tested here; each part that changes samples lends a channel's part on by itself.
 
+mod squares;
+
 ghost use mathlib.Core.Path.{_≡_};
 ghost use lib.ListN.{length};
 ghost use Rattle.frames.specs.Shape.{isSamples, isShape};
@@ -12,6 +14,11 @@ pub const LARGEST_INPUT: f32 = 65536.0;
 
 // The largest magnitude of a sample into the level estimator or the limiter.
 pub const LARGEST_LEVEL: f32 = 33554432.0;
+
+// Their squares.
+const INPUT_SQUARE: f32 = 4294967296.0;
+
+const LEVEL_SQUARE: f32 = 1125899906842624.0;
 
 // Whether a channel may have this many samples: 40 to 480, in a multiple of 20.
 pub fn is_samples(samples: usize) -> bool
@@ -38,8 +45,8 @@ fn is_within(bound: f32, x: f32) -> bool
     floats::magnitude(x) <= bound
 }
 
-// Whether every sample of the frame is within the bound. It looks at each sample, whatever it finds.
-pub fn are_within(bound: f32, frame: &[f32]) -> bool
+// Whether every sample of the frame is within any bound. It looks at each sample, whatever it finds.
+fn are_all_within(bound: f32, frame: &[f32]) -> bool
     ensures { λ r. ⌜ r ≡ allWithin bound (now (frame .entry)) ⌝ }
 {
     let mut ok = true;
@@ -49,6 +56,20 @@ pub fn are_within(bound: f32, frame: &[f32]) -> bool
         i += 1;
     }
     ok
+}
+
+// Whether every sample of the frame is within the bound. The two bounds above are powers of two, and
+// for them a sample's square tells it sooner.
+pub fn are_within(bound: f32, frame: &[f32]) -> bool
+    ensures { λ r. ⌜ r ≡ allWithin bound (now (frame .entry)) ⌝ }
+{
+    if bound == LARGEST_INPUT {
+        squares::are_within(LARGEST_INPUT, INPUT_SQUARE, frame)
+    } else if bound == LARGEST_LEVEL {
+        squares::are_within(LARGEST_LEVEL, LEVEL_SQUARE, frame)
+    } else {
+        are_all_within(bound, frame)
+    }
 }
 
 // The first reply that applies to a frame, in the order 1, 4, 2, 3. Of the caller's own tests, set

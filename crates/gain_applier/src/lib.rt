@@ -2,10 +2,11 @@
 // is set. The Rust's gain_applier.
 
 ghost use mathlib.Core.Path.{_≡_};
-ghost use Prim.Native.Nat.{_*_};
+ghost use Prim.Native.Nat.{_*_, _≤_};
 ghost use lib.ListN.{length};
 ghost use Rattle.frames.specs.Parts.{eachPart};
 ghost use Rattle.gain_applier.specs.Sound.{closeToOne, scaled, ramped, clipped, finished, gained};
+ghost use Rattle.gain_applier.specs.Gains.{gainsFrom, multiplied};
 ghost use Rattle.gain_applier.specs.Applier.{remembered, inverseOf, passes, made, Applied, applied, aimed, told};
 use units::replies::DONE;
 
@@ -60,15 +61,27 @@ fn scale(part: &mut [f32], gain: f32)
     }
 }
 
-// Multiplies each sample of a part by a gain that takes one step after each.
-fn ramp(part: &mut [f32], from: f32, step: f32)
-    ensures { λ _. ⌜ now (part .exit) ≡ ramped from step (now (part .entry)) ⌝ }
+// Fills with gains, each one step after the one before.
+fn fill_gains(gains: &mut [f32], from: f32, step: f32)
+    ensures { λ _. ⌜ now (gains .exit) ≡ gainsFrom (length (now (gains .entry))) from step ⌝ }
 {
     let mut gain = from;
     let mut i = 0;
-    while i < part.len() {
-        part[i] = part[i] * gain;
+    while i < gains.len() {
+        gains[i] = gain;
         gain = gain + step;
+        i += 1;
+    }
+}
+
+// Multiplies each sample of a part by its gain.
+fn multiply(part: &mut [f32], gains: &[f32])
+    requires { ⌜ length (now part) ≤ length (now gains) ⌝ }
+    ensures { λ _. ⌜ now (part .exit) ≡ multiplied (now (gains .entry)) (now (part .entry)) ⌝ }
+{
+    let mut i = 0;
+    while i < part.len() {
+        part[i] = part[i] * gains[i];
         i += 1;
     }
 }
@@ -108,19 +121,45 @@ fn scale_channels(frame: &mut [f32], channels: usize, samples: usize, gain: f32)
     }
 }
 
-// Lends each channel's part to `ramp`.
-fn ramp_channels(frame: &mut [f32], channels: usize, samples: usize, from: f32, step: f32)
-    requires { ⌜ length (now frame) ≡ channels * samples ⌝ }
-    ensures { λ _. ⌜ now (frame .exit) ≡ eachPart (ramped from step) channels samples (now (frame .entry)) ⌝ }
+// Lends each channel's part to `multiply`.
+fn multiply_channels(frame: &mut [f32], channels: usize, samples: usize, gains: &[f32])
+    requires { ⌜ (length (now frame) ≡ channels * samples) × (samples ≤ length (now gains)) ⌝ }
+    ensures { λ _. ⌜ now (frame .exit) ≡ eachPart (multiplied (now (gains .entry))) channels samples (now (frame .entry)) ⌝ }
 {
     let mut start = 0;
     let mut left = channels;
     while 0 < left {
         let end = start + samples;
-        ramp(&mut frame[start..end], from, step);
+        multiply(&mut frame[start..end], gains);
         start = end;
         left -= 1;
     }
+}
+
+// Ramps each channel's part. The gains are the same for each, so they are worked out once, in a list
+// that is lent for them.
+fn ramp_by(
+    frame: &mut [f32],
+    channels: usize,
+    samples: usize,
+    from: f32,
+    step: f32,
+    gains: &mut [f32],
+)
+    requires { ⌜ (length (now frame) ≡ channels * samples) × (length (now gains) ≡ samples) ⌝ }
+    ensures { λ _. ⌜ now (frame .exit) ≡ eachPart (ramped from step) channels samples (now (frame .entry)) ⌝ }
+{
+    fill_gains(gains, from, step);
+    multiply_channels(frame, channels, samples, gains);
+}
+
+// Ramps each channel's part.
+fn ramp_channels(frame: &mut [f32], channels: usize, samples: usize, from: f32, step: f32)
+    requires { ⌜ (length (now frame) ≡ channels * samples) × (samples ≤ 480) ⌝ }
+    ensures { λ _. ⌜ now (frame .exit) ≡ eachPart (ramped from step) channels samples (now (frame .entry)) ⌝ }
+{
+    let mut gains = [0.0; 480];
+    ramp_by(frame, channels, samples, from, step, &mut gains[..samples]);
 }
 
 // Puts the gain on a frame: nothing where it stays and is close to 1, the same factor everywhere where
@@ -133,7 +172,7 @@ fn put_gain(
     current: f32,
     inverse: f32,
 )
-    requires { ⌜ length (now frame) ≡ channels * samples ⌝ }
+    requires { ⌜ (length (now frame) ≡ channels * samples) × (samples ≤ 480) ⌝ }
     ensures { λ _. ⌜ now (frame .exit) ≡ gained last current inverse channels samples (now (frame .entry)) ⌝ }
 {
     if last == current {

@@ -1,71 +1,38 @@
--- `gain_applier::ramp_channels` meets its contract, by the laws of the walk over what is done to a part. Assumes nothing.
-use Rattle.frames.specs.Walk.{Walking, walk-begins, walk-room, walk-goes-on, walk-ends}
-use Rattle.gain_applier.specs.Sound.{ramped}
-use borrow.Author.Needs.{needs}
+-- `gain_applier::ramp_channels` meets its contract: there is room for the gains of a channel. Assumes nothing.
+use mathlib.Core.Path.{_≡_, refl, sym}
+use mathlib.Core.List.{List}
+use Prim.Native.Nat.{ℕ, _≤_}
 use native.Mathlib.Omega.{arith}
+use lib.ListN.{length, take, length-take}
+use lib.Ieee.{Float}
+use borrow.Author.Needs.{needs}
 use Rattle.gain_applier.proofs.ramp_channels.Statement.{statement}
 use Rattle.gain_applier.proofs.ramp_channels.Tie as tie
 
-abbrev Inv-loop : tie.InvT-loop
-Inv-loop frame₀ channels samples from step start₀ left₀ frame start left = Walking (ramped from step) channels samples frame₀ frame start left
+start-long : (n : ℕ) (xs : List Float) → n ≤ 480 → length xs ≡ 480 → length (take n xs) ≡ n
+start-long n xs h l = let t = length-take n xs in omega arith
 
-abbrev μ-loop : tie.MeasureT-loop
-μ-loop frame₀ channels samples from step start₀ left₀ frame start left = left
+array-borrow-prefix-gains : tie.Need-array-borrow-prefix-gains
+array-borrow-prefix-gains c = search needs
 
-loop-holds : tie.Need-loop-holds Inv-loop μ-loop
-loop-holds c = walk-begins (c .before .pre)
+slice-aggregate-ramp-by : tie.Need-slice-aggregate-ramp-by
+slice-aggregate-ramp-by c = let start = c .before .before .before in sym (start-long (start .args .samples) _ (start .pre .1) refl)
 
-add-end : tie.Need-add-end Inv-loop μ-loop
-add-end c = omega (arith, walk-room (c .before .loop .inv) (c .loop-test .taken))
+ramp-by-requires : tie.Need-ramp-by-requires
+ramp-by-requires c κs = let start = c .before .before .before in (start .pre .0, start-long (start .args .samples) _ (start .pre .1) refl)
 
-mul-ramp : tie.Need-mul-ramp Inv-loop μ-loop
-mul-ramp c = omega (arith, walk-room (c .before .loop .inv) (c .loop-test .taken))
+same-length : tie.Need-same-length
+same-length c = search needs
 
-sub-ramp : tie.Need-sub-ramp Inv-loop μ-loop
-sub-ramp c = omega arith
-
-part-ramp-start : tie.Need-part-ramp-start Inv-loop μ-loop
-part-ramp-start c = omega arith
-
-part-ramp-end : tie.Need-part-ramp-end Inv-loop μ-loop
-part-ramp-end c = walk-room (c .before .loop .inv) (c .loop-test .taken)
-
-ramp-requires : tie.Need-ramp-requires Inv-loop μ-loop
-ramp-requires c κs = search needs
-
-sub-left : tie.Need-sub-left Inv-loop μ-loop
-sub-left c = omega arith
-
-loop-less : tie.Need-loop-less Inv-loop μ-loop
-loop-less c = omega arith
-
-loop-again : tie.Need-loop-again Inv-loop μ-loop
-loop-again c =
-    let at-test = c .before .before .before .before in
-    let made = c .before .before .ramp in
-    walk-goes-on (at-test .before .loop .inv) (at-test .loop-test .taken) (made .ensures) (made .kept .0)
-
-same-length : tie.Need-same-length Inv-loop μ-loop
-same-length c = c .before .loop .inv .same
-
-returns : tie.Need-returns Inv-loop μ-loop
-returns c = walk-ends (c .before .loop .inv) (c .loop-test .left)
+returns : tie.Need-returns
+returns c = search needs
 
 pub ramp-channels-spec : {M : Type 1} → statement M
 ramp-channels-spec =
     tie.close
     (tie.spec
-    Inv-loop
-    μ-loop
-    loop-holds
-    add-end
-    mul-ramp
-    sub-ramp
-    part-ramp-start
-    part-ramp-end
-    ramp-requires
-    sub-left
-    loop-less
-    loop-again
+    array-borrow-prefix-gains
+    slice-aggregate-ramp-by
+    ramp-by-requires
     same-length
     returns)

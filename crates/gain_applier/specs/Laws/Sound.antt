@@ -26,6 +26,7 @@ use Rattle.units.specs.Replies.{done}
 use Rattle.frames.specs.Shape.{isSamples}
 use Rattle.frames.specs.Parts.{eachPart}
 use Rattle.frames.specs.Samples.{largestInput, largestLevel, within, allWithin}
+use Rattle.frames.specs.Squares.{without-sign}
 use Rattle.frames.specs.Facts.{and-first, and-second, samples-facts, taken}
 use Rattle.gain_applier.specs.declared.Applier.{Applier}
 use Rattle.gain_applier.specs.Sound.{closeToOne, scaled, ramped, clipped, stepOf, gained, finished}
@@ -71,12 +72,7 @@ unfolding P N size U ofBits
 top-value = record { number = constant-number 0x46ff_fe00 tt; plus = refl; minus = refl }
 
 -- ---- a sample's magnitude
--- the sign has no part in whether a number fits, nor in its size
-without-sign : (s : Bool) (m : ℕ) (e : ℤ) → T (fits binary32 (fin s m e)) → T (fits binary32 (fin false m e))
-unfolding fits
-without-sign s zero e f = f
-without-sign s (suc m) e f = f
-
+-- the sign has no part in a number's size
 size-of : (s : Bool) (m : ℕ) (e : ℤ) → Number (fin s m e) → P (fin s m e) + N (fin s m e) ≡ P (fin false m e)
 unfolding P N size
 size-of true m e n = zero-add _

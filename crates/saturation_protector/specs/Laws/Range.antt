@@ -37,14 +37,12 @@ product-finite s a b c d C D h k =
     swap c d u =
         ap (λ (z : ℕ). z * u) (mul-assoc 100 c d) ∙ mul-assoc 100 (c * d) u ∙ ap (λ (z : ℕ). 100 * z) (mul-comm (c * d) u) ∙ sym (mul-assoc 100 u (c * d))
 
--- a headroom is above 0 and at most 100
-record Upto (s : Bool) (m : ℕ) (e : ℤ) : Type 0 where
-  pub small : m * up e ≤ 100 * down e
-
-upto : (s : Bool) (m : ℕ) (e : ℤ) → headroom (fin s m e) ≡ true → Upto s m e
+-- a headroom is at most 100
+upto : (s : Bool) (m : ℕ) (e : ℤ) → headroom (fin s m e) ≡ true → m * up e ≤ 100 * down e
 unfolding le lt eq ofBits
 upto true m e h = absurd (false≢true h)
-upto false m e h = record { small = go (ltb (m * up e * 1) (100 * down e)) refl (both (lt (ofBits binary32 0x0000_0000) (fin false m e)) (le (fin false m e) (ofBits binary32 0x42c8_0000)) h .1) }
+upto false m e h =
+    go (ltb (m * up e * 1) (100 * down e)) refl (both (lt (ofBits binary32 0x0000_0000) (fin false m e)) (le (fin false m e) (ofBits binary32 0x42c8_0000)) h .1)
   where
     go : (b : Bool) → ltb (m * up e * 1) (100 * down e) ≡ b → b || (eqb (m * up e * 1) (100 * down e) && true) ≡ true → m * up e ≤ 100 * down e
     go true k t = let l = ltb-true (m * up e * 1) (100 * down e) k in omega arith
@@ -65,7 +63,7 @@ unfolding mul
 scaled-finite nan s n d k p = absurd (false≢true (sym no-headroom ∙ p))
 scaled-finite (inf t) s n d k p = absurd (false≢true (sym (no-headroom-above t) ∙ p))
 scaled-finite (fin t m e) s n d k p =
-    product-finite (unlike t s) (m * up e) (n * up d) (down e) (down d) (down-pos e) (down-pos d) (upto t m e p .small) k
+    product-finite (unlike t s) (m * up e) (n * up d) (down e) (down d) (down-pos e) (down-pos d) (upto t m e p) k
 
 -- ---- what stays of the headroom, and what comes of the difference
 attack-is : attack ≡ fin false 2094739 (negsuc 20)

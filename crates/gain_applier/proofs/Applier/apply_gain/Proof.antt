@@ -48,7 +48,7 @@ inverse-of-requires : tie.Need-inverse-of-requires
 inverse-of-requires c κs = search needs
 
 put-gain-requires : tie.Need-put-gain-requires
-put-gain-requires c κs = facts (c .before .before) .1
+put-gain-requires c κs = (facts (c .before .before) .1, facts (c .before .before) .0 .each .most)
 
 finish-requires : tie.Need-finish-requires
 finish-requires c κs = search needs

@@ -1,0 +1,68 @@
+-- `speed::parts::apply` is safe and ends. Assumes nothing.
+use mathlib.Core.Path.{_≡_}
+use Prim.Native.Nat.{_-_, _≤_}
+use lib.ListN.{length}
+use borrow.Author.Needs.{needs}
+use Rattle.speed.proofs.parts.apply.Statement.{statement}
+use Rattle.speed.proofs.parts.apply.Tie as tie
+
+abbrev Inv-loop : tie.InvT-loop
+Inv-loop frame₀ ask factor applier₀ digest₀ refused₀ seed₀ frames k₀ frame applier digest refused seed k = (length frame ≡ length frame₀) × (k ≤ frames)
+
+abbrev μ-loop : tie.MeasureT-loop
+μ-loop frame₀ ask factor applier₀ digest₀ refused₀ seed₀ frames k₀ frame applier digest refused seed k = frames - k
+
+new-requires : tie.Need-new-requires Inv-loop μ-loop
+new-requires c κs = search needs
+
+loop-holds : tie.Need-loop-holds Inv-loop μ-loop
+loop-holds c = search needs
+
+add-k : tie.Need-add-k Inv-loop μ-loop
+add-k c = search needs
+
+loudness-requires : tie.Need-loudness-requires Inv-loop μ-loop
+loudness-requires c κs = search needs
+
+fill-requires : tie.Need-fill-requires Inv-loop μ-loop
+fill-requires c κs = search needs
+
+apply-gain-requires : tie.Need-apply-gain-requires Inv-loop μ-loop
+apply-gain-requires c κs = search needs
+
+digest-requires : tie.Need-digest-requires Inv-loop μ-loop
+digest-requires c κs = search needs
+
+loop-less : tie.Need-loop-less Inv-loop μ-loop
+loop-less c = search needs
+
+loop-again : tie.Need-loop-again Inv-loop μ-loop
+loop-again c = search needs
+
+mix-requires : tie.Need-mix-requires Inv-loop μ-loop
+mix-requires c κs = search needs
+
+same-length : tie.Need-same-length Inv-loop μ-loop
+same-length c = search needs
+
+returns : tie.Need-returns Inv-loop μ-loop
+returns c = search needs
+
+pub apply-spec : {M : Type 1} → statement M
+apply-spec =
+    tie.close
+    (tie.spec
+    Inv-loop
+    μ-loop
+    new-requires
+    loop-holds
+    add-k
+    loudness-requires
+    fill-requires
+    apply-gain-requires
+    digest-requires
+    loop-less
+    loop-again
+    mix-requires
+    same-length
+    returns)
