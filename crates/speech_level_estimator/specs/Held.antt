@@ -9,7 +9,7 @@ pub record Held (a : Average) : Type 0 where
   pub sum : T (fits binary32 (a .sum))
   pub weight : T (fits binary32 (a .weight))
 
--- of the settings, the two that the starting level is made of that the starting level is made of
+-- of the settings, the two that the starting level is made of
 pub record HeldSettings (s : Settings) : Type 0 where
   pub headroom : T (fits binary32 (s .headroom .0))
   pub initial : T (fits binary32 (s .initial .0))

@@ -1,15 +1,18 @@
 -- In which box each setting, each figure and each field of a state lies, where its test passed.
 use mathlib.Core.Path.{_≡_, refl}
+use mathlib.Core.Logic.{_⊎_, inl, inr}
 use mathlib.Core.Bool.{Bool, true, false, _&&_, _||_, not}
-use Prim.Native.Nat.{ℕ}
+use Prim.Native.Nat.{ℕ, _+_, _≤_}
+use native.Mathlib.Omega.{arith}
 use lib.Dec.{T}
 use lib.Ieee.{Float, binary32, ofBits, le, lt, eq, fits}
 use lib.Ieee.Scale.{finite}
-use Rattle.rounding.specs.Units.{In}
+use Rattle.rounding.specs.Units.{P, N, Number, Value, In}
+use Rattle.rounding.specs.Laws.Whole.{sides}
 use Rattle.rounding.specs.Laws.Order.{between, le-box}
 use Rattle.rounding.specs.Laws.Exact.{constant-number}
 use Rattle.floats.specs.Kinds.{isNegativeZero}
-use Rattle.floats.specs.Laws.Kinds.{passed}
+use Rattle.floats.specs.Laws.Kinds.{passed, nought-value}
 use Rattle.frames.specs.Facts.{and-first, and-second}
 use Rattle.intervals.specs.Interval.{Box, Boxed}
 use Rattle.units.specs.Ranges.{closed, above}
@@ -17,7 +20,7 @@ use Rattle.units.specs.Figures as Figures
 use Rattle.units.specs.Settings as Settings
 use Rattle.units.specs.declared.settings.Settings.{Settings as Set}
 use Rattle.adaptive_digital_gain_controller.specs.Controller.{accepted}
-use Rattle.adaptive_digital_gain_controller.specs.Range.{HeldSettings, HeldInfo}
+use Rattle.adaptive_digital_gain_controller.specs.Range.{zero, HeldSettings, HeldInfo}
 use Rattle.adaptive_digital_gain_controller.specs.declared.Info.{Info}
 
 -- a test that passed is true
@@ -64,6 +67,26 @@ module _ (a b : ℕ) (l : T (finite (ofBits binary32 a))) (h : T (finite (ofBits
   -- And so does a setting.
   pub setting-box : T (fits binary32 x) → Settings.setting (ofBits binary32 a) x (ofBits binary32 b) ≡ true → Boxed (from-to a b) x
   setting-box t c = closed-box t (and-first (closed (ofBits binary32 a) x (ofBits binary32 b)) (not (isNegativeZero x)) c)
+
+-- a number that has no units below zero, and at most c above it
+pub record Above (c : ℕ) (x : Float) : Type 0 where
+  pub number : Number x
+  pub none : N x ≡ 0
+  pub most : P x ≤ c
+
+-- A number from 0 to one of c units has none below zero, and at most c above it.
+pub from-zero : (hi x : Float) (c : ℕ) → Value hi c 0 → In zero hi x → Above c x
+from-zero hi x c v i =
+    let z = nought-value in
+    let none = clear (P x) (N x) (P zero) (N zero) (sides x (i .number) .one) (z .plus) (z .minus) (i .above) in
+    record { number = i .number; none = none; most = most (P x) (N x) (P hi) (N hi) c (v .plus) (v .minus) none (i .below) }
+  where
+    clear : (p n q m : ℕ) → (p ≡ 0) ⊎ (n ≡ 0) → q ≡ 0 → m ≡ 0 → q + n ≤ p + m → n ≡ 0
+    clear p n q m (inl i) j k l = omega arith
+    clear p n q m (inr i) j k l = i
+
+    most : (p n q m c : ℕ) → q ≡ c → m ≡ 0 → n ≡ 0 → p + m ≤ q + n → p ≤ c
+    most p n q m c i j k l = omega arith
 
 -- where the settings lie
 pub record InSettings (s : Set) : Type 0 where

@@ -12,42 +12,23 @@ use lib.IntN.{pos}
 use lib.Ieee.{Float, nan, inf, fin, binary32, ofBits, ofInt, add, sub, mul, div, neg, eq, lt, le, fits, size as bits}
 use Rattle.rounding.specs.Units.{U, size, P, N, Number, Value, In, rnd, Rounding}
 use Rattle.rounding.specs.Laws.Rnd.{rnd-zero, err-hi}
-use Rattle.rounding.specs.Laws.Whole.{sides}
 use Rattle.rounding.specs.Laws.Order.{le→units, eq-units}
 use Rattle.rounding.specs.Laws.Operations.{add-rounds, sub-rounds, sub-above, neg-value}
 use Rattle.rounding.specs.Laws.Between.{in-real, known}
 use Rattle.rounding.specs.Laws.Exact.{constant-number, whole-number}
 use Rattle.floats.specs.Choice.{larger, smaller, clamp}
+use Rattle.floats.specs.Laws.Kinds.{nought-value}
 use Rattle.intervals.specs.Interval.{Expr, variable, constant, product, quotient, eval, Box, box, bounded, Boxed}
 use Rattle.intervals.specs.Laws.Interval.{interval}
 use Rattle.intervals.specs.Laws.Choice.{Leq, leq-trans, Greater, Lesser, larger-is, smaller-is}
 use Rattle.adaptive_digital_gain_controller.specs.Change.{perFrame, increase, changed}
 use Rattle.adaptive_digital_gain_controller.specs.Range.{zero, past50, Goal, Gain}
-use Rattle.adaptive_digital_gain_controller.specs.Laws.Boxes.{from-to, boxed}
-use Rattle.adaptive_digital_gain_controller.specs.Laws.Target.{zero-value, past-value}
+use Rattle.adaptive_digital_gain_controller.specs.Laws.Boxes.{from-to, boxed, Above, from-zero}
+use Rattle.adaptive_digital_gain_controller.specs.Laws.Target.{past-value}
 
 fifty-one-value : Value (ofBits binary32 0x424c_0000) (51 * U) 0
 unfolding P N size U ofBits
 fifty-one-value = record { number = constant-number 0x424c_0000 tt; plus = refl; minus = refl }
-
--- what lies from 0 to c units: none below zero
-record Above (c : ℕ) (x : Float) : Type 0 where
-  pub number : Number x
-  pub none : N x ≡ 0
-  pub most : P x ≤ c
-
-from-zero : (hi x : Float) (c : ℕ) → Value hi c 0 → In zero hi x → Above c x
-from-zero hi x c v i =
-    let z = zero-value in
-    let none = clear (P x) (N x) (P zero) (N zero) (sides x (i .number) .one) (z .plus) (z .minus) (i .above) in
-    record { number = i .number; none = none; most = most (P x) (N x) (P hi) (N hi) c (v .plus) (v .minus) none (i .below) }
-  where
-    clear : (p n q m : ℕ) → (p ≡ 0) ⊎ (n ≡ 0) → q ≡ 0 → m ≡ 0 → q + n ≤ p + m → n ≡ 0
-    clear p n q m (inl i) j k l = omega arith
-    clear p n q m (inr i) j k l = i
-
-    most : (p n q m c : ℕ) → q ≡ c → m ≡ 0 → n ≡ 0 → p + m ≤ q + n → p ≤ c
-    most p n q m c i j k l = omega arith
 
 -- one of two whole numbers is the smaller
 either : (a b : ℕ) → (a < b) ⊎ (b ≤ a)
@@ -104,13 +85,13 @@ module _ (target gain most rise : Float) (allowed : Bool) (t : Goal target) (g :
     pub high : Leq x (sub binary32 target gain)
 
   turned-down : Leq (neg gain) zero
-  turned-down = plain (P (neg gain)) (N (neg gain)) (P gain) (N gain) (P zero) (N zero) (turned .plus) (turned .minus) (old .none) (zero-value .minus)
+  turned-down = plain (P (neg gain)) (N (neg gain)) (P gain) (N gain) (P zero) (N zero) (turned .plus) (turned .minus) (old .none) (nought-value .minus)
     where
       plain : (v w p n q m : ℕ) → v ≡ n → w ≡ p → n ≡ 0 → m ≡ 0 → v + m ≤ q + w
       plain v w p n q m i j k l = omega arith
 
   lesser : Lesser (sub binary32 target gain) zero (smaller (sub binary32 target gain) zero)
-  lesser = smaller-is (sub binary32 target gain) zero (difference .number) (zero-value .number)
+  lesser = smaller-is (sub binary32 target gain) zero (difference .number) (nought-value .number)
 
   is-due : Due due
   unfolding due
@@ -125,7 +106,7 @@ module _ (target gain most rise : Float) (allowed : Bool) (t : Goal target) (g :
   change = changed target gain allowed most rise
 
   most-down : Leq (neg most) zero
-  most-down = plain (P (neg most)) (N (neg most)) (P most) (N most) (P zero) (N zero) (neg-value most (m .number) .plus) (neg-value most (m .number) .minus) (zero-value .plus) (zero-value .minus) (m .up)
+  most-down = plain (P (neg most)) (N (neg most)) (P most) (N most) (P zero) (N zero) (neg-value most (m .number) .plus) (neg-value most (m .number) .minus) (nought-value .plus) (nought-value .minus) (m .up)
     where
       plain : (v w p n q m : ℕ) → v ≡ n → w ≡ p → q ≡ 0 → m ≡ 0 → q + n ≤ p + m → v + m ≤ q + w
       plain v w p n q m i j y z k = omega arith
@@ -150,7 +131,7 @@ module _ (target gain most rise : Float) (allowed : Bool) (t : Goal target) (g :
   after = add-rounds gain change (g .number) (chosen .number)
 
   not-below : P zero * 1 + (N gain + N change) ≤ P gain + P change + N zero * 1
-  not-below = plain (P (neg gain)) (N (neg gain)) (P gain) (N gain) (P change) (N change) (P zero) (N zero) (turned .plus) (turned .minus) (zero-value .plus) change-low
+  not-below = plain (P (neg gain)) (N (neg gain)) (P gain) (N gain) (P change) (N change) (P zero) (N zero) (turned .plus) (turned .minus) (nought-value .plus) change-low
     where
       plain : (v w p n q m y z : ℕ) → v ≡ n → w ≡ p → y ≡ 0 → v + m ≤ q + w → y * 1 + (n + m) ≤ p + q + z * 1
       plain v w p n q m y z i j k h = omega arith
@@ -158,7 +139,7 @@ module _ (target gain most rise : Float) (allowed : Bool) (t : Goal target) (g :
   -- where the target is not above the gain, nor is the gain after the frame
   falls : P target ≤ P gain → Leq change zero
   falls h =
-      change-high zero (leq-trans due (sub binary32 target gain) zero (is-due .high) (plain (P (sub binary32 target gain)) (N (sub binary32 target gain)) (P zero) (N zero) none (zero-value .minus))) (omega arith)
+      change-high zero (leq-trans due (sub binary32 target gain) zero (is-due .high) (plain (P (sub binary32 target gain)) (N (sub binary32 target gain)) (P zero) (N zero) none (nought-value .minus))) (omega arith)
     where
       gone : (p q : ℕ) → p ≤ q → p - q ≡ 0
       gone p q h = omega arith
@@ -172,7 +153,7 @@ module _ (target gain most rise : Float) (allowed : Bool) (t : Goal target) (g :
   -- where it is above, the change is at most the difference
   rises : P gain < P target → Leq change (sub binary32 target gain)
   rises h =
-      change-high (sub binary32 target gain) (is-due .high) (plain (P (sub binary32 target gain)) (N (sub binary32 target gain)) (P zero) (N zero) none (zero-value .plus))
+      change-high (sub binary32 target gain) (is-due .high) (plain (P (sub binary32 target gain)) (N (sub binary32 target gain)) (P zero) (N zero) none (nought-value .plus))
     where
       gone : (p q : ℕ) → p < q → p - q ≡ 0
       gone p q h = omega arith
@@ -198,19 +179,19 @@ module _ (target gain most rise : Float) (allowed : Bool) (t : Goal target) (g :
           (fifty-one-value .plus) (fifty-one-value .minus) (rounded .plus) (err-hi (P target - P gain) 1 (lit< tt)) h (goal .most) parts (lit≤ tt) (rises h)
       go (inr h) =
           down (P gain) (N gain) (P change) (N change) (P (ofBits binary32 0x424c_0000)) (N (ofBits binary32 0x424c_0000)) (P zero) (N zero) U
-          (fifty-one-value .plus) (fifty-one-value .minus) (zero-value .plus) (zero-value .minus) (old .most) (falls h)
+          (fifty-one-value .plus) (fifty-one-value .minus) (nought-value .plus) (nought-value .minus) (old .most) (falls h)
 
   -- A gain from 0 to 51 that changes towards a target lies from 0 to 51 again.
   pub stays : Gain (add binary32 gain (changed target gain allowed most rise))
   unfolding change
-  stays = in-real zero (ofBits binary32 0x424c_0000) (add binary32 gain change) (P gain + P change) (N gain + N change) 1 (lit< tt) (zero-value .number) (fifty-one-value .number) after not-below not-above
+  stays = in-real zero (ofBits binary32 0x424c_0000) (add binary32 gain change) (P gain + P change) (N gain + N change) 1 (lit< tt) (nought-value .number) (fifty-one-value .number) after not-below not-above
 
   -- Where the gain may not rise, it lies from 0 to what it was.
   pub held-down : allowed ≡ false → In zero gain (add binary32 gain (changed target gain allowed most rise))
   unfolding change due
   held-down e =
-      in-real zero gain (add binary32 gain change) (P gain + P change) (N gain + N change) 1 (lit< tt) (zero-value .number) (g .number) after not-below
-      (plain (P gain) (N gain) (P change) (N change) (P zero) (N zero) (zero-value .plus) (zero-value .minus) (change-high zero (subst (λ (b : Bool). Leq (cond b (sub binary32 target gain) (smaller (sub binary32 target gain) zero)) zero) (sym e) (lesser .second)) (omega arith)))
+      in-real zero gain (add binary32 gain change) (P gain + P change) (N gain + N change) 1 (lit< tt) (nought-value .number) (g .number) after not-below
+      (plain (P gain) (N gain) (P change) (N change) (P zero) (N zero) (nought-value .plus) (nought-value .minus) (change-high zero (subst (λ (b : Bool). Leq (cond b (sub binary32 target gain) (smaller (sub binary32 target gain) zero)) zero) (sym e) (lesser .second)) (omega arith)))
     where
       plain : (p n q m y z : ℕ) → y ≡ 0 → z ≡ 0 → q + z ≤ y + m → p + q + n * 1 ≤ p * 1 + (n + m)
       plain p n q m y z i j h = omega arith
@@ -243,7 +224,7 @@ frame-box x b =
     boxed 0x0000_0000 0x3f80_0000 tt tt y
     (record {
       number = i .inside .number;
-      above = leq-trans zero l y (le→units zero l (zero-value .number) (i .low-number) frame-low) (i .inside .above);
+      above = leq-trans zero l y (le→units zero l (nought-value .number) (i .low-number) frame-low) (i .inside .above);
       below = leq-trans y h (ofBits binary32 0x3f80_0000) (i .inside .below) (le→units h (ofBits binary32 0x3f80_0000) (i .high-number) one frame-high);
     })
 
@@ -293,7 +274,7 @@ threshold-box n h =
     boxed 0x0000_0000 0x4348_0000 tt tt x
     (record {
       number = v .number;
-      above = low (P x) (N x) (P zero) (N zero) (v .minus) (zero-value .plus);
+      above = low (P x) (N x) (P zero) (N zero) (v .minus) (nought-value .plus);
       below = high (P x) (N x) (P (ofBits binary32 0x4348_0000)) (N (ofBits binary32 0x4348_0000)) (n * U) (200 * U) (v .plus) (t .plus) (t .minus) (mul-le-mul-right U h);
     })
   where
@@ -328,7 +309,7 @@ rise-step first threshold change h b =
     let i = interval rise-boxes (change ∷ ofInt binary32 (pos threshold) ∷ []) (b, (threshold-box threshold h, tt)) rise-expr rise-bounded in
     let l = box rise-boxes rise-expr .low in
     let y = mul binary32 change (ofInt binary32 (pos threshold)) in
-    go first (record { number = i .inside .number; up = leq-trans zero l y (le→units zero l (zero-value .number) (i .low-number) rise-low) (i .inside .above) })
+    go first (record { number = i .inside .number; up = leq-trans zero l y (le→units zero l (nought-value .number) (i .low-number) rise-low) (i .inside .above) })
   where
     go : (b : Bool) → Step (mul binary32 change (ofInt binary32 (pos threshold))) → Step (cond b (mul binary32 change (ofInt binary32 (pos threshold))) change)
     go true k = k

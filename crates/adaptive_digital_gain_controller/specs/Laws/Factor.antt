@@ -17,7 +17,7 @@ use Rattle.rounding.specs.Laws.Whole.{U-pos}
 use Rattle.rounding.specs.Laws.Same.{same-number}
 use Rattle.rounding.specs.Laws.Exact.{constant-number}
 use Rattle.floats.specs.Choice.{larger, smaller}
-use Rattle.floats.specs.Laws.Kinds.{passed}
+use Rattle.floats.specs.Laws.Kinds.{passed, nought-value}
 use Rattle.intervals.specs.Interval.{Expr, variable, constant, sum, product, eval, Box, box, bounded, Boxed}
 use Rattle.intervals.specs.Laws.Interval.{interval}
 use Rattle.units.specs.Figures.{gain, gainFactor}
@@ -69,17 +69,13 @@ left-units : P (ofBits binary32 0x3d80_0000) * 16 ≡ U
 unfolding P size U ofBits
 left-units = refl
 
-zero-units : (P zero ≡ 0) × (N zero ≡ 0)
-unfolding P N size ofBits
-zero-units = (refl, refl)
-
 rest-box : (x : Float) → Split x → Boxed (from-to 0x0000_0000 0x3d80_0000) (rest x)
 unfolding ofBits
 rest-box x s =
     boxed 0x0000_0000 0x3d80_0000 tt tt (rest x)
     (record {
       number = s .rest-number;
-      above = low (P (rest x)) (N (rest x)) (P zero) (N zero) (s .rest-above) (zero-units .0);
+      above = low (P (rest x)) (N (rest x)) (P zero) (N zero) (s .rest-above) (nought-value .plus);
       below = high (P (rest x)) (N (rest x)) (P (ofBits binary32 0x3d80_0000)) (N (ofBits binary32 0x3d80_0000)) U (s .part-below) left-units (left-value .minus);
     })
   where
@@ -185,10 +181,10 @@ unfolding ofBits
 factor-passes x f =
     let n = f .number in
     let o = one-value in
-    let z = zero-units in
+    let z = nought-value in
     let l = largest-value in
     let e = end-value in
-    let a = units→lt zero x (constant-number 0x0000_0000 tt) n (low (P x) (N x) (P zero) (N zero) (P (ofBits binary32 0x3f80_0000)) (N (ofBits binary32 0x3f80_0000)) U (z .0) (z .1) (o .plus) (o .minus) U-pos (f .above)) in
+    let a = units→lt zero x (constant-number 0x0000_0000 tt) n (low (P x) (N x) (P zero) (N zero) (P (ofBits binary32 0x3f80_0000)) (N (ofBits binary32 0x3f80_0000)) U (z .plus) (z .minus) (o .plus) (o .minus) U-pos (f .above)) in
     let b = units→lt x (ofBits binary32 0x4400_0000) n (e .number) (high (P x) (N x) (P (ofBits binary32 0x4400_0000)) (N (ofBits binary32 0x4400_0000)) (P largest) (N largest) U (e .plus) (e .minus) (l .plus) (l .minus) U-pos (f .below)) in
     (rw (is-true (lt zero x) a, is-true (lt x (ofBits binary32 0x4400_0000)) b), is-true (le x largest) (units→le x largest n (l .number) (f .below)))
   where

@@ -1,7 +1,6 @@
 -- The target of a frame is a number from 0 to the f32 next above 50. It can be that one, though no setting is above 50: the sum of headroom
 -- and largest gain is rounded before the level is compared with it.
 use mathlib.Core.Path.{_≡_, refl, ap, _∙_, subst}
-use mathlib.Core.Logic.{_⊎_, inl, inr}
 use mathlib.Core.Bool.{Bool, true, false, _||_, not, cond}
 use mathlib.Core.List.{List, [], _∷_}
 use Prim.Native.Nat.{ℕ, _+_, _-_, _*_, _^_, _≤_, _<_}
@@ -11,13 +10,13 @@ use lib.Dec.{T, lit<}
 use lib.Ieee.{Float, binary32, ofBits, add, sub, neg, le, lt, eq, fits, size as bits}
 use Rattle.rounding.specs.Units.{U, size, P, N, Number, Value, In, rnd}
 use Rattle.rounding.specs.Laws.Rnd.{rnd-zero, under-hi}
-use Rattle.rounding.specs.Laws.Whole.{sides}
 use Rattle.rounding.specs.Laws.Order.{lt→units, not-lt→units}
 use Rattle.rounding.specs.Laws.Operations.{add-above, sub-rounds, neg-value}
 use Rattle.rounding.specs.Laws.Between.{in-real, known}
 use Rattle.rounding.specs.Laws.Exact.{constant-number}
 use Rattle.floats.specs.Choice.{larger, smaller}
 use Rattle.floats.specs.Kinds.{isNegativeZero}
+use Rattle.floats.specs.Laws.Kinds.{nought-value}
 use Rattle.intervals.specs.Interval.{Expr, variable, constant, sum, difference, eval, Box, box, bounded, Boxed}
 use Rattle.intervals.specs.Interval as I
 use Rattle.intervals.specs.Laws.Interval.{interval}
@@ -26,16 +25,12 @@ use Rattle.units.specs.declared.settings.Settings.{Settings as Set}
 use Rattle.adaptive_digital_gain_controller.specs.Target.{wanted, underNoise, loud, underEnvelope, target}
 use Rattle.adaptive_digital_gain_controller.specs.Controller.{accepted}
 use Rattle.adaptive_digital_gain_controller.specs.Range.{zero, past50, Goal, Gain}
-use Rattle.adaptive_digital_gain_controller.specs.Laws.Boxes.{from-to, boxed, InSettings, InFigures}
+use Rattle.adaptive_digital_gain_controller.specs.Laws.Boxes.{from-to, boxed, Above, from-zero, InSettings, InFigures}
 use Rattle.adaptive_digital_gain_controller.specs.declared.Info.{Info}
 
 -- ---- the ends, in units: an f32 between 64 and 128 is a multiple of 2 * gap
 gap : ℕ
 gap = 2 ^ 131
-
-pub zero-value : Value zero 0 0
-unfolding P N size ofBits
-zero-value = record { number = constant-number 0x0000_0000 tt; plus = refl; minus = refl }
 
 pub past-value : Value past50 (50 * U + 2 ^ 131) 0
 unfolding P N size U ofBits
@@ -58,26 +53,8 @@ unfolding sum-expr eval
 sum-number x y b d = interval (from-to 0xc316_0000 0x4248_0000 ∷ from-to 0x0000_0000 0x42c8_0000 ∷ []) (x ∷ y ∷ []) (b, (d, tt)) sum-expr sum-bounded .inside .number
 
 -- ---- the gain that is wanted
--- what lies from 0 to 50: none below zero, and at most 50 * U units
-record Fifty (x : Float) : Type 0 where
-  pub number : Number x
-  pub none : N x ≡ 0
-  pub most : P x ≤ 50 * U
-
-fifty : (x : Float) → Boxed (from-to 0x0000_0000 0x4248_0000) x → Fifty x
-fifty x b =
-    let i = b .inside in
-    let z = zero-value in
-    let f = fifty-value in
-    let none = clear (P x) (N x) (P zero) (N zero) (sides x (i .number) .one) (z .plus) (z .minus) (i .above) in
-    record { number = i .number; none = none; most = most (P x) (N x) (P (ofBits binary32 0x4248_0000)) (N (ofBits binary32 0x4248_0000)) (50 * U) (f .plus) (f .minus) none (i .below) }
-  where
-    clear : (p n q m : ℕ) → (p ≡ 0) ⊎ (n ≡ 0) → q ≡ 0 → m ≡ 0 → q + n ≤ p + m → n ≡ 0
-    clear p n q m (inl i) j k l = omega arith
-    clear p n q m (inr i) j k l = i
-
-    most : (p n q m c : ℕ) → q ≡ c → m ≡ 0 → n ≡ 0 → p + m ≤ q + n → p ≤ c
-    most p n q m c i j k l = omega arith
+fifty : (x : Float) → Boxed (from-to 0x0000_0000 0x4248_0000) x → Above (50 * U) x
+fifty x b = from-zero (ofBits binary32 0x4248_0000) x (50 * U) fifty-value (b .inside)
 
 below-128 : 100 * U < 2 ^ (24 + 132) * 1
 unfolding U
@@ -118,9 +95,9 @@ summed h l b d =
     bring s r p q z g i j k = omega arith
 
 -- what has at most 50 * U units lies from 0 to the f32 next above 50
-within-50 : (x : Float) → Fifty x → Goal x
+within-50 : (x : Float) → Above (50 * U) x → Goal x
 within-50 x f =
-    let z = zero-value in
+    let z = nought-value in
     let v = past-value in
     record {
       number = f .number;
@@ -137,18 +114,18 @@ within-50 x f =
 -- 0 does
 none-50 : Goal zero
 none-50 =
-    let z = zero-value in
+    let z = nought-value in
     let p = z .plus in
     within-50 zero (record { number = z .number; none = z .minus; most = omega arith })
 
-module _ (level headroom largest : Float) (n : Number level) (h : Fifty headroom) (l : Fifty largest) (s : Sum headroom largest) where
+module _ (level headroom largest : Float) (n : Number level) (h : Above (50 * U) headroom) (l : Above (50 * U) largest) (s : Sum headroom largest) where
   -- what brings the level to the headroom below full scale, for a level that is not very low
   lifted : N (add binary32 headroom largest) + N level ≤ P level + P (add binary32 headroom largest) → P level + P headroom < N headroom + N level
       → Goal (sub binary32 (neg headroom) level)
   unfolding gap
   lifted low high =
       let v = neg-value headroom (h .number) in
-      let z = zero-value in
+      let z = nought-value in
       let t = past-value in
       in-real zero past50 (sub binary32 (neg headroom) level) (P (neg headroom) + N level) (N (neg headroom) + P level) 1 (lit< tt) (z .number) (t .number)
       (sub-rounds (neg headroom) level (v .number) n)

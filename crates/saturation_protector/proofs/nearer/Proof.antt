@@ -12,7 +12,7 @@ clamp-requires c κs = search needs
 
 returns : tie.Need-returns
 unfolding nearer
-returns c = cc
+returns c = rw (c .clamp .ensures, c .before .pick-f32 .ensures)
 
 pub nearer-spec : {M : Type 1} → statement M
 nearer-spec = tie.close (tie.spec pick-f32-requires clamp-requires returns)

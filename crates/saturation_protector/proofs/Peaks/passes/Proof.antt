@@ -18,7 +18,9 @@ is-level-requires c κs = search needs
 
 returns : tie.Need-returns
 unfolding passes
-returns c = cc
+returns c =
+    let three = c .before .before .before in
+    rw (c .before .before .is-level .ensures, three .are-levels .ensures, three .before .passes .ensures, three .before .before .is-headroom .ensures)
 
 pub passes-spec : {M : Type 1} → statement M
 passes-spec =

@@ -17,7 +17,7 @@ returns c =
     let start = c .before .before .before in
     let ring : c .before .reset .result .ring ≡ reset (start .args .self .ring) =
     ap (λ (n : Next). n .ring) (c .before .reset .ensures) ∙ forgotten-ring (start .args .self .ring) (start .pre) in
-    cc
+    rw ring
 
 pub restarted-spec : {M : Type 1} → statement M
 restarted-spec = tie.close (tie.spec reset-requires returns)

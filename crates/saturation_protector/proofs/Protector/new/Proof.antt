@@ -1,5 +1,7 @@
 -- `saturation_protector::Protector::new` meets its contract: each field is chosen by itself. Assumes nothing.
 use mathlib.Core.Bool.{_&&_}
+use Rattle.units.specs.Figures.{headroom}
+use Rattle.units.specs.Settings.{threshold}
 use Rattle.saturation_protector.specs.Calls.{made}
 use Rattle.saturation_protector.specs.Laws.Chosen.{chosen}
 use borrow.Author.Needs.{needs}
@@ -42,10 +44,23 @@ pick-u32-requires c κs = search needs
 returns : tie.Need-returns
 unfolding made
 returns c =
-    let five = c .before .before .before .before .before in
-    let tests = five .before .before .before in
-    let at = tests .before .before .before .args in
-    cc (chosen (tests .before .before .is-threshold .result && tests .before .is-headroom .result) (at .initial .0) (at .threshold))
+    let four = c .before .before .before .before in
+    let seven = four .before .before .before in
+    let at = seven .before .before .before .before .args in
+    rw (
+      c .pick-u32 .ensures,
+      c .before .pick-peaks2 .ensures,
+      c .before .before .none2 .ensures,
+      c .before .before .before .starting2 .ensures,
+      four .pick-peaks .ensures,
+      four .before .none .ensures,
+      four .before .before .starting .ensures,
+      seven .pick-f32 .ensures,
+      seven .before .refusal .ensures,
+      seven .before .before .is-headroom .ensures,
+      seven .before .before .before .is-threshold .ensures,
+      ← chosen (threshold (at .threshold) && headroom (at .initial .0)) (at .initial .0) (at .threshold),
+    )
 
 pub new-spec : {M : Type 1} → statement M
 new-spec =

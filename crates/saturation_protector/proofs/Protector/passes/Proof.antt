@@ -21,7 +21,9 @@ passes-requires-2 c κs = search needs
 
 returns : tie.Need-returns
 unfolding passes
-returns c = cc
+returns c =
+    let four = c .before .before .before .before in
+    rw (c .passes2 .ensures, c .before .passes .ensures, c .before .before .is-headroom2 .ensures, four .is-threshold .ensures, four .before .is-headroom .ensures)
 
 pub passes-spec : {M : Type 1} → statement M
 passes-spec =
