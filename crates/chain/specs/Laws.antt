@@ -1,0 +1,7 @@
+-- What is true of the chain: no part refuses what the chain takes, accepted states pass again, what comes out is of full scale, and an answer is determined.
+pub mod Frames
+pub mod Passing
+pub mod Start
+pub mod Steps
+pub mod Calls
+pub mod Outcome

@@ -1,0 +1,126 @@
+-- What a chain that passes has, and what is accepted of figures; settings that are accepted are alike with themselves. Laws.
+-- Assumes nothing.
+use mathlib.Core.Path.{_≡_}
+use mathlib.Core.Bool.{Bool, true, _&&_}
+use lib.Dec.{T, eqb}
+use lib.Ieee.{Float, binary32, fits, ofBits, eq, le, lt, size as bits}
+use Rattle.rounding.specs.Laws.Exact.{constant-number}
+use Rattle.rounding.specs.Laws.Order.{le→units, units→le}
+use Rattle.intervals.specs.Laws.Choice.{leq-trans}
+use Rattle.frames.specs.Facts.{and-first, and-second}
+use Rattle.units.specs.Figures as Range
+use Rattle.units.specs.Ranges as Ranges
+use Rattle.units.specs.Settings as Settings
+use Rattle.units.specs.declared.settings.Settings.{Settings as Set}
+use Rattle.speech_level_estimator.specs.Estimator as Level
+use Rattle.saturation_protector.specs.Protector as Headroom
+use Rattle.gain_applier.specs.Laws.Again.{equals-itself}
+use Rattle.adaptive_digital_gain_controller.specs.Controller as Gain
+use Rattle.adaptive_digital_gain_controller.specs.Range.{HeldSettings}
+use Rattle.adaptive_digital_gain_controller.specs.Laws.Boxes.{is-true, closed-box, in-settings}
+use Rattle.limiter.specs.Limiter as Limiting
+use Rattle.chain.specs.Chain.{initial, accepted, alike, passes}
+use Rattle.chain.specs.declared.Chain.{Chain}
+use Rattle.chain.specs.declared.Figures.{Figures}
+
+-- what a chain that passes has passed
+pub record Passed (c : Chain) : Type 0 where
+  pub estimator : Level.passes (c .estimator) ≡ true
+  pub protector : Headroom.passes (c .protector) ≡ true
+  pub controller : Gain.passes (c .controller) ≡ true
+  pub limiter : Limiting.passes (c .limiter) ≡ true
+  pub second : eqb (c .estimator .threshold) (c .protector .threshold) ≡ true
+  pub third : eqb (c .estimator .threshold) (c .controller .threshold) ≡ true
+  pub settings : alike (c .estimator .settings) (c .controller .settings) ≡ true
+  pub start : eq (c .protector .initial) initial ≡ true
+
+-- A chain that passes has passed each of the eight tests.
+pub passed-all : (c : Chain) → passes c ≡ true → Passed c
+unfolding passes
+passed-all c h =
+    let t1 = Level.passes (c .estimator) in
+    let t2 = Headroom.passes (c .protector) in
+    let t3 = Gain.passes (c .controller) in
+    let t4 = Limiting.passes (c .limiter) in
+    let t5 = eqb (c .estimator .threshold) (c .protector .threshold) in
+    let t6 = eqb (c .estimator .threshold) (c .controller .threshold) in
+    let t7 = alike (c .estimator .settings) (c .controller .settings) in
+    let t8 = eq (c .protector .initial) initial in
+    let a7 = and-first (t1 && t2 && t3 && t4 && t5 && t6 && t7) t8 h in
+    let a6 = and-first (t1 && t2 && t3 && t4 && t5 && t6) t7 a7 in
+    let a5 = and-first (t1 && t2 && t3 && t4 && t5) t6 a6 in
+    let a4 = and-first (t1 && t2 && t3 && t4) t5 a5 in
+    let a3 = and-first (t1 && t2 && t3) t4 a4 in
+    let a2 = and-first (t1 && t2) t3 a3 in
+    record {
+      estimator = and-first t1 t2 a2;
+      protector = and-second t1 t2 a2;
+      controller = and-second (t1 && t2) t3 a3;
+      limiter = and-second (t1 && t2 && t3) t4 a4;
+      second = and-second (t1 && t2 && t3 && t4) t5 a5;
+      third = and-second (t1 && t2 && t3 && t4 && t5) t6 a6;
+      settings = and-second (t1 && t2 && t3 && t4 && t5 && t6) t7 a7;
+      start = and-second (t1 && t2 && t3 && t4 && t5 && t6 && t7) t8 h;
+    }
+
+-- And what has passed all eight passes.
+pub passing : (c : Chain) → Passed c → passes c ≡ true
+unfolding passes
+passing c p = all (p .estimator) (p .protector) (p .controller) (p .limiter) (p .second) (p .third) (p .settings) (p .start)
+  where
+    all : {a b d e f g h i : Bool} → a ≡ true → b ≡ true → d ≡ true → e ≡ true → f ≡ true → g ≡ true → h ≡ true → i ≡ true → a && b && d && e && f && g && h && i ≡ true
+    all p q r s t u v w = rw (p, q, r, s, t, u, v, w)
+
+-- what accepted figures have
+pub record Inside (f : Figures) : Type 0 where
+  pub probability : Range.probability (f .probability) ≡ true
+  pub rms : Range.rms (f .rms .0) ≡ true
+  pub peak : Range.level (f .peak .0) ≡ true
+  pub noise : Range.level (f .noise .0) ≡ true
+  pub envelope : Range.envelope (f .envelope .0) ≡ true
+
+-- Accepted figures lie each in its range.
+pub inside : (f : Figures) → accepted f ≡ true → Inside f
+unfolding accepted
+inside f h =
+    let t1 = Range.probability (f .probability) in
+    let t2 = Range.rms (f .rms .0) in
+    let t3 = Range.level (f .peak .0) in
+    let t4 = Range.level (f .noise .0) in
+    let t5 = Range.envelope (f .envelope .0) in
+    let a4 = and-first (t1 && t2 && t3 && t4) t5 h in
+    let a3 = and-first (t1 && t2 && t3) t4 a4 in
+    let a2 = and-first (t1 && t2) t3 a3 in
+    record {
+      probability = and-first t1 t2 a2;
+      rms = and-second t1 t2 a2;
+      peak = and-second (t1 && t2) t3 a3;
+      noise = and-second (t1 && t2 && t3) t4 a4;
+      envelope = and-second (t1 && t2 && t3 && t4) t5 h;
+    }
+
+-- A published level, from -90 to 30, is a level of the speech, from -150 to 50.
+pub published-level : (x : Float) → T (fits binary32 x) → Ranges.closed (ofBits binary32 0xc2b4_0000) x (ofBits binary32 0x41f0_0000) ≡ true → Range.level x ≡ true
+unfolding ofBits le lt eq bits
+published-level x f h =
+    let i = closed-box 0xc2b4_0000 0x41f0_0000 tt tt x f h .inside in
+    let low = ofBits binary32 0xc316_0000 in
+    let least = ofBits binary32 0xc2b4_0000 in
+    let most = ofBits binary32 0x41f0_0000 in
+    let high = ofBits binary32 0x4248_0000 in
+    let down = le→units low least (constant-number 0xc316_0000 tt) (constant-number 0xc2b4_0000 tt) tt in
+    let up = le→units most high (constant-number 0x41f0_0000 tt) (constant-number 0x4248_0000 tt) tt in
+    rw (
+      is-true (le low x) (units→le low x (constant-number 0xc316_0000 tt) (i .number) (leq-trans low least x down (i .above))),
+      is-true (le x high) (units→le x high (i .number) (constant-number 0x4248_0000 tt) (leq-trans x most high (i .below) up)),
+    )
+
+-- Accepted settings are alike with themselves.
+pub alike-itself : (s : Set) → HeldSettings s → Settings.accepted s ≡ true → alike s s ≡ true
+unfolding alike
+alike-itself s h a =
+    let i = in-settings s h a in
+    all (equals-itself (s .headroom .0) (i .headroom .inside .number)) (equals-itself (s .largest .0) (i .largest .inside .number)) (equals-itself (s .initial .0) (i .initial .inside .number)) (equals-itself (s .change) (i .change .inside .number)) (equals-itself (s .noise .0) (i .noise .inside .number))
+  where
+    all : {a b d e f : Bool} → a ≡ true → b ≡ true → d ≡ true → e ≡ true → f ≡ true → a && b && d && e && f ≡ true
+    all p q r s t = rw (p, q, r, s, t)

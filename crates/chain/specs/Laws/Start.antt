@@ -1,0 +1,255 @@
+-- A chain at the start passes, and its numbers are f32. Laws.
+-- Assumes nothing.
+use mathlib.Core.Path.{_≡_, refl, sym, ap, ap₂, _∙_, subst}
+use mathlib.Core.Bool.{Bool, true, false, _&&_, cond}
+use Prim.Native.Nat.{ℕ}
+use native.Mathlib.Omega.{arith}
+use borrow.Author.Tests.{eq-eqb}
+use lib.Dec.{eqb}
+use lib.Ieee.{Float, binary32, ofBits, eq, le, lt}
+use lib.Ieee.Bits.{ofBits-fits}
+use Rattle.units.specs.Figures as Range
+use Rattle.units.specs.Replies.{done, refusal}
+use Rattle.units.specs.Settings as Settings
+use Rattle.units.specs.declared.settings.Settings.{Settings as Set}
+use Rattle.frames.specs.Shape.{isSamples}
+use Rattle.frames.specs.Facts.{and-first, and-second}
+use Rattle.speech_level_estimator.specs.Estimator as Level
+use Rattle.speech_level_estimator.specs.Calls as Levels
+use Rattle.speech_level_estimator.specs.Held as LevelHeld
+use Rattle.speech_level_estimator.specs.Laws.Again as LevelAgain
+use Rattle.speech_level_estimator.specs.declared.Next.{Next as LevelNext}
+use Rattle.saturation_protector.specs.Peaks as Peaks
+use Rattle.saturation_protector.specs.Protector as Headroom
+use Rattle.saturation_protector.specs.Calls as Headrooms
+use Rattle.saturation_protector.specs.Laws.Again as HeadroomAgain
+use Rattle.saturation_protector.specs.declared.Next.{Next as HeadroomNext}
+use Rattle.adaptive_digital_gain_controller.specs.Controller as Gain
+use Rattle.adaptive_digital_gain_controller.specs.Calls as Gaining
+use Rattle.adaptive_digital_gain_controller.specs.Range as GainRange
+use Rattle.adaptive_digital_gain_controller.specs.Laws.Calls as GainCalls
+use Rattle.adaptive_digital_gain_controller.specs.declared.Next.{Next as GainNext}
+use Rattle.fixed_digital_level_estimator.specs.Estimator as Envelope
+use Rattle.limiter.specs.Limiter as Limiting
+use Rattle.limiter.specs.Scale as Scale
+use Rattle.limiter.specs.Laws.States as LimiterStates
+use Rattle.limiter.specs.declared.Next.{Next as LimiterNext}
+use Rattle.chain.specs.Chain.{initial, alike, samplesOf}
+use Rattle.chain.specs.Calls.{fresh, nothing, made}
+use Rattle.chain.specs.Held.{HeldProtector, Ready}
+use Rattle.chain.specs.Laws.Passing.{passing, alike-itself}
+use Rattle.chain.specs.declared.Chain.{Chain}
+use Rattle.chain.specs.declared.Made.{Made}
+
+-- nothing fails, so nothing is refused
+unrefused : (b : Bool) → b ≡ true → refusal true b true true ≡ done
+unfolding refusal
+unrefused b h = ap (λ (x : Bool). refusal true x true true) h
+
+shaped : (b : Bool) → b ≡ true → refusal b true true true ≡ done
+unfolding refusal
+shaped b h = ap (λ (x : Bool). refusal x true true true) h
+
+both : {a b : Bool} → a ≡ true → b ≡ true → a && b ≡ true
+both p q = rw (p, q)
+
+-- ---- the four parts
+initial-headroom : Range.headroom initial ≡ true
+unfolding le lt eq ofBits
+initial-headroom = refl
+
+initial-itself : eq initial initial ≡ true
+unfolding eq ofBits
+initial-itself = refl
+
+headroom-held : (t : ℕ) → HeldProtector (Headroom.fresh initial t)
+unfolding Headroom.fresh Peaks.starting
+headroom-held t = record { headroom = ofBits-fits binary32 0x41a0_0000; preliminary = ofBits-fits binary32 0x41a0_0000; reliable = ofBits-fits binary32 0x41a0_0000 }
+
+level-settings : (s : Set) → GainRange.HeldSettings s → LevelHeld.HeldSettings s
+level-settings s h = record { headroom = h .headroom; initial = h .initial }
+
+module _ (s : Set) (t : ℕ) (h : GainRange.HeldSettings s) (ok : Settings.accepted s && Settings.threshold t ≡ true) where
+  level-is : Levels.made s t .estimator ≡ Level.fresh s t (Level.startingLevel s)
+  unfolding Levels.made
+  level-is = ap (λ (b : Bool). cond b (Level.fresh s t (Level.startingLevel s)) Level.nothing) ok
+
+  level-done : Levels.made s t .reply ≡ done
+  unfolding Levels.made
+  level-done = unrefused (Settings.accepted s && Settings.threshold t) ok
+
+  level-passes : Level.passes (Level.fresh s t (Level.startingLevel s)) ≡ true
+  level-passes = ap Level.passes (sym level-is) ∙ LevelAgain.made-passes s t (level-settings s h) level-done
+
+  level-held : LevelHeld.HeldEstimator (Level.fresh s t (Level.startingLevel s))
+  level-held = subst LevelHeld.HeldEstimator level-is (LevelAgain.made-held s t (level-settings s h) level-done)
+
+  gain-is : Gaining.made s t .controller ≡ Gain.fresh s t
+  unfolding Gaining.made
+  gain-is = ap (λ (b : Bool). cond b (Gain.fresh s t) Gain.nothing) ok
+
+  gain-done : Gaining.made s t .reply ≡ done
+  unfolding Gaining.made
+  gain-done = unrefused (Settings.accepted s && Settings.threshold t) ok
+
+  gain-ready : GainRange.Ready (Gain.fresh s t)
+  gain-ready = subst GainRange.Ready gain-is (GainCalls.made-ready s t h gain-done)
+
+module _ (samples : ℕ) (ok : isSamples samples ≡ true) where
+  limiter-is : Limiting.made samples .limiter ≡ Limiting.starting samples
+  unfolding Limiting.made
+  limiter-is = ap (λ (b : Bool). cond b (Limiting.starting samples) Limiting.none) ok
+
+  limiter-ready : Scale.Ready (Limiting.starting samples)
+  unfolding Limiting.made
+  limiter-ready = subst Scale.Ready limiter-is (LimiterStates.made-passes samples (shaped (isSamples samples) ok))
+
+starting-samples : (samples : ℕ) → Limiting.starting samples .estimator .samples ≡ samples
+unfolding Limiting.starting Envelope.sizedTo
+starting-samples samples = refl
+
+-- what each part of a new chain has in common with the others
+fresh-level : (s : Set) (t : ℕ) (x : Float) → (Level.fresh s t x .threshold ≡ t) × (Level.fresh s t x .settings ≡ s)
+unfolding Level.fresh
+fresh-level s t x = (refl, refl)
+
+fresh-headroom : (x : Float) (t : ℕ) → (Headroom.fresh x t .threshold ≡ t) × (Headroom.fresh x t .initial ≡ x)
+unfolding Headroom.fresh
+fresh-headroom x t = (refl, refl)
+
+fresh-gain : (s : Set) (t : ℕ) → (Gain.fresh s t .threshold ≡ t) × (Gain.fresh s t .settings ≡ s)
+unfolding Gain.fresh
+fresh-gain s t = (refl, refl)
+
+-- ---- the chain
+module _ (s : Set) (t samples : ℕ) (h : GainRange.HeldSettings s) where
+  -- A chain of accepted settings, a threshold in its range and a shape's samples passes at the start, and its numbers are f32.
+  pub fresh-ready : Settings.accepted s ≡ true → Settings.threshold t ≡ true → isSamples samples ≡ true → Ready (fresh s t samples)
+  unfolding fresh
+  fresh-ready a b n =
+      let ok = both a b in
+      let x = Level.startingLevel s in
+      let e = fresh-level s t x in
+      let p = fresh-headroom initial t in
+      let g = fresh-gain s t in
+      let gain = gain-ready s t h ok in
+      let limiter = limiter-ready samples n in
+      record {
+        held =
+            record {
+              estimator = level-held s t h ok;
+              protector = headroom-held t;
+              controller = gain .held;
+              level = limiter .level;
+              carried = limiter .carried;
+            };
+        state = passing (fresh s t samples)
+            (record {
+              estimator = level-passes s t h ok;
+              protector = HeadroomAgain.fresh-passes initial t initial-headroom b;
+              controller = gain .state;
+              limiter = limiter .state;
+              second = ap₂ eqb (e .0) (p .0) ∙ eq-eqb t t refl;
+              third = ap₂ eqb (e .0) (g .0) ∙ eq-eqb t t refl;
+              settings = ap₂ alike (e .1) (g .1) ∙ alike-itself s h a;
+              start = ap (λ (y : Float). eq y initial) (p .1) ∙ initial-itself;
+            });
+      }
+
+  -- Its samples are those that were asked for.
+  pub fresh-samples : samplesOf (fresh s t samples) ≡ samples
+  unfolding fresh
+  fresh-samples = starting-samples samples
+
+  -- the replies 1 and 4 are not 0
+  two : (shape setting : Bool) → refusal shape setting true true ≡ done → (shape ≡ true) × (setting ≡ true)
+  unfolding refusal
+  two true true k = (refl, refl)
+  two true false k = absurd (omega arith)
+  two false setting k = absurd (omega arith)
+
+  module _ (k : made s t samples .reply ≡ done) where
+    tests : (isSamples samples ≡ true) × (Settings.accepted s && Settings.threshold t ≡ true)
+    unfolding made
+    tests = two (isSamples samples) (Settings.accepted s && Settings.threshold t) k
+
+    -- A new chain that is not refused is the one at the start,
+    pub made-fresh : made s t samples .chain ≡ fresh s t samples
+    unfolding made
+    made-fresh = ap (λ (b : Bool). cond b (fresh s t samples) nothing) (both (tests .0) (tests .1))
+
+    -- so it passes, and its numbers are f32,
+    pub made-ready : Ready (made s t samples .chain)
+    made-ready =
+        subst Ready (sym made-fresh)
+        (fresh-ready (and-first (Settings.accepted s) (Settings.threshold t) (tests .1)) (and-second (Settings.accepted s) (Settings.threshold t) (tests .1)) (tests .0))
+
+    -- and its samples are those that were asked for.
+    pub made-samples : samplesOf (made s t samples .chain) ≡ samples
+    made-samples = ap (λ (c : Chain). samplesOf c) made-fresh ∙ fresh-samples
+
+-- ---- as the code makes it: each part by its own call, of settings, a threshold and samples that are all 0 where the chain is refused
+unfoldable four : Set → ℕ → ℕ → Chain
+four s t samples =
+    record {
+      estimator = Levels.made s t .estimator;
+      protector = Headrooms.made initial t .protector;
+      controller = Gaining.made s t .controller;
+      limiter = Limiting.made samples .limiter;
+    }
+
+-- A threshold of 0 is refused.
+no-frames : (s : Set) → Settings.accepted s && Settings.threshold 0 ≡ false
+no-frames s = none (Settings.accepted s)
+  where
+    none : (b : Bool) → b && false ≡ false
+    none true = refl
+    none false = refl
+
+headroom-is : (t : ℕ) → Settings.threshold t ≡ true → Headrooms.made initial t .protector ≡ Headroom.fresh initial t
+unfolding Headrooms.made
+headroom-is t h = ap (λ (b : Bool). cond b (Headroom.fresh initial t) Headroom.nothing) (both h initial-headroom)
+
+four-fresh : (s : Set) (t samples : ℕ) → Settings.accepted s && Settings.threshold t ≡ true → isSamples samples ≡ true → four s t samples ≡ fresh s t samples
+unfolding four fresh Levels.made Gaining.made Limiting.made
+four-fresh s t samples ok n =
+    let e = ap (λ (b : Bool). cond b (Level.fresh s t (Level.startingLevel s)) Level.nothing) ok in
+    let p = headroom-is t (and-second (Settings.accepted s) (Settings.threshold t) ok) in
+    let g = ap (λ (b : Bool). cond b (Gain.fresh s t) Gain.nothing) ok in
+    let l = ap (λ (b : Bool). cond b (Limiting.starting samples) Limiting.none) n in
+    λ i. record { estimator = e i; protector = p i; controller = g i; limiter = l i }
+
+four-nothing : (s : Set) → four s 0 0 ≡ nothing
+unfolding four nothing Levels.made Headrooms.made Gaining.made Limiting.made isSamples
+four-nothing s =
+    let e = ap (λ (b : Bool). cond b (Level.fresh s 0 (Level.startingLevel s)) Level.nothing) (no-frames s) in
+    let g = ap (λ (b : Bool). cond b (Gain.fresh s 0) Gain.nothing) (no-frames s) in
+    λ i. record { estimator = e i; protector = Headroom.nothing; controller = g i; limiter = Limiting.none }
+
+four-is : (b : Bool) (s unset : Set) (t samples : ℕ) → (b ≡ true → (isSamples samples ≡ true) × (Settings.accepted s && Settings.threshold t ≡ true))
+    → four (cond b s unset) (cond b t 0) (cond b samples 0) ≡ cond b (fresh s t samples) nothing
+four-is true s unset t samples h = four-fresh s t samples (h refl .1) (h refl .0)
+four-is false s unset t samples h = four-nothing unset
+
+-- What the code's calls come to is the definition's.
+pub made-parts : (s unset : Set) (t samples : ℕ) {a b d : Bool} {reply frames size : ℕ} {set : Set} {first : LevelNext} {second : HeadroomNext} {third : GainNext} {fourth : LimiterNext}
+    → a ≡ isSamples samples → b ≡ Settings.accepted s → d ≡ Settings.threshold t → reply ≡ refusal a (b && d) true true
+    → set ≡ cond (a && (b && d)) s unset → frames ≡ cond (a && (b && d)) t 0 → size ≡ cond (a && (b && d)) samples 0
+    → first ≡ Levels.made set frames → second ≡ Headrooms.made initial frames → third ≡ Gaining.made set frames → fourth ≡ Limiting.made size
+    → _≡_ {A = Made} (record { reply = reply; chain = record { estimator = first .estimator; protector = second .protector; controller = third .controller; limiter = fourth .limiter } }) (made s t samples)
+unfolding made four
+made-parts s unset t samples {reply = reply} {first = first} {second = second} {third = third} {fourth = fourth} pa pb pd pr ps pf pz p1 p2 p3 p4 =
+    let ok = isSamples samples && (Settings.accepted s && Settings.threshold t) in
+    let same = ap₂ _&&_ pa (ap₂ _&&_ pb pd) in
+    let s' = ps ∙ ap (λ (x : Bool). cond x s unset) same in
+    let f' = pf ∙ ap (λ (x : Bool). cond x t 0) same in
+    let z' = pz ∙ ap (λ (x : Bool). cond x samples 0) same in
+    let e = ap (λ (x : LevelNext). x .estimator) p1 ∙ ap₂ (λ (x : Set) (y : ℕ). Levels.made x y .estimator) s' f' in
+    let p = ap (λ (x : HeadroomNext). x .protector) p2 ∙ ap (λ (y : ℕ). Headrooms.made initial y .protector) f' in
+    let g = ap (λ (x : GainNext). x .controller) p3 ∙ ap₂ (λ (x : Set) (y : ℕ). Gaining.made x y .controller) s' f' in
+    let l = ap (λ (x : LimiterNext). x .limiter) p4 ∙ ap (λ (y : ℕ). Limiting.made y .limiter) z' in
+    let c : _≡_ {A = Chain} (record { estimator = first .estimator; protector = second .protector; controller = third .controller; limiter = fourth .limiter }) (four (cond ok s unset) (cond ok t 0) (cond ok samples 0)) =
+    λ i. record { estimator = e i; protector = p i; controller = g i; limiter = l i } in
+    let all = c ∙ four-is ok s unset t samples (λ (h : ok ≡ true). (and-first (isSamples samples) (Settings.accepted s && Settings.threshold t) h, and-second (isSamples samples) (Settings.accepted s && Settings.threshold t) h)) in
+    let r = pr ∙ ap₂ (λ (x y : Bool). refusal x y true true) pa (ap₂ _&&_ pb pd) in
+    λ i. record { reply = r i; chain = all i }
