@@ -39,3 +39,14 @@ usual =
       change = ofBits binary32 0x40c0_0000;
       noise = record { 0 = ofBits binary32 0xc248_0000 };
     }
+
+-- "a refused new call: all fields 0"
+unfoldable pub unset : Settings
+unset =
+    record {
+      headroom = record { 0 = ofBits binary32 0x0000_0000 };
+      largest = record { 0 = ofBits binary32 0x0000_0000 };
+      initial = record { 0 = ofBits binary32 0x0000_0000 };
+      change = ofBits binary32 0x0000_0000;
+      noise = record { 0 = ofBits binary32 0x0000_0000 };
+    }

@@ -1,7 +1,7 @@
 // What an operator sets, and the range of each setting. A negative zero is refused in a setting.
 
 ghost use mathlib.Core.Path.{_≡_};
-ghost use Rattle.units.specs.Settings.{accepted, threshold, setting, usual};
+ghost use Rattle.units.specs.Settings.{accepted, threshold, setting, usual, unset};
 use crate::kinds::Db;
 use crate::kinds::Dbfs;
 
@@ -34,6 +34,19 @@ impl Settings {
             initial: Db(15.0),
             change: 6.0,
             noise: Dbfs(-50.0),
+        }
+    }
+
+    // All 0: what stands in a state that was refused. It is not accepted.
+    pub fn unset() -> Settings
+        ensures { λ r. ⌜ r ≡ unset ⌝ }
+    {
+        Settings {
+            headroom: Db(0.0),
+            largest: Db(0.0),
+            initial: Db(0.0),
+            change: 0.0,
+            noise: Dbfs(0.0),
         }
     }
 

@@ -1,0 +1,326 @@
+// The headroom that the recent peaks of the speech ask for. The Rust's saturation_protector.
+
+ghost use mathlib.Core.Path.{_≡_};
+ghost use mathlib.Core.Bool.{cond, true};
+ghost use Rattle.saturation_protector_buffer.specs.Ring.{passes as passesRing, items};
+ghost use Rattle.saturation_protector.specs.Peaks.{allLevels, none, starting, passes, oldestOr, nearer, restarted, advanced};
+ghost use Rattle.saturation_protector.specs.Protector.{passes as passesProtector, analyzed};
+ghost use Rattle.saturation_protector.specs.Calls.{made, stepped, reset, told};
+use saturation_protector_buffer::Front;
+use saturation_protector_buffer::Ring;
+use units::kinds::Db;
+use units::kinds::Dbfs;
+use units::replies::refusal;
+
+// How many milliseconds a frame lasts.
+const FRAME: u32 = 10;
+
+// A peak is pushed once more than so many milliseconds have passed since the last push.
+const LONGEST: u32 = 400;
+
+// The lowest level in dBFS, from which the largest peak starts.
+const LOWEST: f32 = -90.309;
+
+// How much of the headroom stays in each frame, where the peak asks for more, and where it does not.
+const ATTACK: f32 = 0.9988494;
+
+const DECAY: f32 = 0.99976975;
+
+// The ends of a headroom that was worked out.
+const LEAST: f32 = 12.0;
+
+const MOST: f32 = 25.0;
+
+// The headroom, the recent peaks, the largest peak since the last push, and how many milliseconds ago
+// that was. The Rust's SaturationProtectorState.
+pub struct Peaks {
+    pub headroom: f32,
+    pub ring: Ring,
+    pub largest: f32,
+    pub elapsed: u32,
+}
+
+// The headroom to start with, how many adjacent speech frames are asked for, how many there are, the
+// headroom that is published, and the two states.
+pub struct Protector {
+    pub initial: f32,
+    pub threshold: u32,
+    pub count: u32,
+    pub headroom: f32,
+    pub preliminary: Peaks,
+    pub reliable: Peaks,
+}
+
+// A reply's number, and the protector that goes on from there: the one that came in where it is refused,
+// and all 0 where it is a new one.
+pub struct Next {
+    pub reply: u32,
+    pub protector: Protector,
+}
+
+// A reply's number, and the published headroom: 0 where it is refused.
+pub struct Headroom {
+    pub reply: u32,
+    pub headroom: Db,
+}
+
+// The first of two states where b, otherwise the second.
+fn pick_peaks(b: bool, x: Peaks, y: Peaks) -> Peaks
+    ensures { λ r. ⌜ r ≡ cond b x y ⌝ }
+{
+    if b { x } else { y }
+}
+
+// The first of two rings where b, otherwise the second.
+fn pick_ring(b: bool, x: Ring, y: Ring) -> Ring
+    ensures { λ r. ⌜ r ≡ cond b x y ⌝ }
+{
+    if b { x } else { y }
+}
+
+// Whether every slot of a ring's storage lies from -150 to 50. It looks at each, whatever it finds.
+fn are_levels(stored: [f32; 4]) -> bool
+    ensures { λ r. ⌜ r ≡ allLevels stored ⌝ }
+{
+    let mut ok = true;
+    let mut i = 0;
+    while i < 4 {
+        ok = ok & units::figures::is_level(Dbfs(stored[i]));
+        i += 1;
+    }
+    ok
+}
+
+// The oldest peak of a ring, and the other value where it has none.
+fn oldest_or(ring: Ring, other: f32) -> f32
+    requires { ⌜ passesRing ring ≡ true ⌝ }
+    ensures { λ r. ⌜ r ≡ oldestOr (items ring) other ⌝ }
+{
+    let found = ring.front();
+    match found.front {
+        Front::None => other,
+        Front::Oldest(peak) => peak.0,
+    }
+}
+
+// The headroom after a frame: a little nearer to the difference that the frame asks for, quicker where that
+// is larger, and from 12 to 25.
+fn nearer(headroom: f32, difference: f32) -> f32
+    ensures { λ r. ⌜ r ≡ nearer headroom difference ⌝ }
+{
+    let stays = floats::pick_f32(headroom < difference, ATTACK, DECAY);
+    floats::clamp(headroom * stays + difference * (1.0 - stays), LEAST, MOST)
+}
+
+impl Peaks {
+    // No peak yet, at a headroom.
+    fn starting(headroom: f32) -> Peaks
+        ensures { λ r. ⌜ r ≡ starting headroom ⌝ }
+    {
+        let ring = Ring::new();
+        Peaks {
+            headroom,
+            ring,
+            largest: LOWEST,
+            elapsed: 0,
+        }
+    }
+
+    // All 0: what stands in a state that was refused.
+    fn none() -> Peaks
+        ensures { λ r. ⌜ r ≡ none ⌝ }
+    {
+        let ring = Ring::new();
+        Peaks {
+            headroom: 0.0,
+            ring,
+            largest: 0.0,
+            elapsed: 0,
+        }
+    }
+
+    // Whether a handed-in state passes: the headroom in its range, a ring that passes, with storage and
+    // largest peak from -150 to 50, and a time from 0 to 400 in tens.
+    fn passes(self) -> bool
+        ensures { λ r. ⌜ r ≡ passes self ⌝ }
+    {
+        let ring = self.ring;
+        let stored = ring.stored;
+        units::figures::is_headroom(Db(self.headroom))
+            & ring.passes()
+            & are_levels(stored)
+            & units::figures::is_level(Dbfs(self.largest))
+            & ((self.elapsed <= LONGEST) & (self.elapsed % FRAME == 0))
+    }
+
+    // The state without its peaks, at a headroom; the ring's storage stays.
+    fn restarted(self, headroom: f32) -> Peaks
+        requires { ⌜ passesRing (self .ring) ≡ true ⌝ }
+        ensures { λ r. ⌜ r ≡ restarted headroom self ⌝ }
+    {
+        let before = self.ring;
+        let after = before.reset();
+        let ring = after.ring;
+        Peaks {
+            headroom,
+            ring,
+            largest: LOWEST,
+            elapsed: 0,
+        }
+    }
+
+    // The state with one frame more, of this peak and this level of the speech.
+    fn advanced(self, peak: f32, level: f32) -> Peaks
+        requires { ⌜ passes self ≡ true ⌝ }
+        ensures { λ r. ⌜ r ≡ advanced peak level self ⌝ }
+    {
+        let before = self.ring;
+        let larger = floats::larger(self.largest, peak);
+        let later = self.elapsed + FRAME;
+        let due = LONGEST < later;
+        let pushed = before.push_back(Dbfs(larger));
+        let with = pushed.ring;
+        let ring = pick_ring(due, with, before);
+        let largest = floats::pick_f32(due, LOWEST, larger);
+        let elapsed = floats::pick_u32(due, 0, later);
+        let difference = oldest_or(ring, largest) - level;
+        let headroom = nearer(self.headroom, difference);
+        Peaks {
+            headroom,
+            ring,
+            largest,
+            elapsed,
+        }
+    }
+}
+
+impl Protector {
+    // A new protector that starts at a headroom. A threshold that is not from 1 to 200 is refused with 4,
+    // and then a headroom that is not above 0 and to 100 with 2.
+    pub fn new(initial: Db, threshold: u32) -> Next
+        ensures { λ r. ⌜ r ≡ made (initial .0) threshold ⌝ }
+    {
+        let setting = units::settings::is_threshold(threshold);
+        let figure = units::figures::is_headroom(Db(initial.0));
+        let reply = refusal(true, setting, figure, true);
+        let ok = setting & figure;
+        let headroom = floats::pick_f32(ok, initial.0, 0.0);
+        let preliminary = pick_peaks(ok, Peaks::starting(headroom), Peaks::none());
+        let reliable = pick_peaks(ok, Peaks::starting(headroom), Peaks::none());
+        Next {
+            reply,
+            protector: Protector {
+                initial: headroom,
+                threshold: floats::pick_u32(ok, threshold, 0),
+                count: 0,
+                headroom,
+                preliminary,
+                reliable,
+            },
+        }
+    }
+
+    // Whether a handed-in state passes: both headrooms and the threshold in their ranges, a run no longer
+    // than the threshold, and two states that pass.
+    pub fn passes(self) -> bool
+        ensures { λ r. ⌜ r ≡ passesProtector self ⌝ }
+    {
+        let preliminary = self.preliminary;
+        let reliable = self.reliable;
+        units::figures::is_headroom(Db(self.initial))
+            & units::settings::is_threshold(self.threshold)
+            & (self.count <= self.threshold)
+            & units::figures::is_headroom(Db(self.headroom))
+            & preliminary.passes()
+            & reliable.passes()
+    }
+
+    // Takes a frame's probability and peak, and the level of the speech. A speech frame advances the
+    // preliminary state, and from the threshold on its headroom is published; any other frame keeps the
+    // run or throws it away. Refused with 4 or 2, and then nothing changes.
+    pub fn analyze(self, probability: f32, peak: Dbfs, level: Dbfs) -> Next
+        ensures { λ r. ⌜ r ≡ stepped self probability (peak .0) (level .0) ⌝ }
+    {
+        let ok = self.passes();
+        let figures = units::figures::is_probability(probability)
+            & units::figures::is_level(Dbfs(peak.0))
+            & units::figures::is_level(Dbfs(level.0));
+        let reply = refusal(true, ok, figures, true);
+        if ok & figures {
+            let protector = self.analyzed(probability, peak.0, level.0);
+            Next { reply, protector }
+        } else {
+            Next {
+                reply,
+                protector: self,
+            }
+        }
+    }
+
+    // The protector after a frame.
+    fn analyzed(self, probability: f32, peak: f32, level: f32) -> Protector
+        requires { ⌜ passesProtector self ≡ true ⌝ }
+        ensures { λ r. ⌜ r ≡ analyzed self probability peak level ⌝ }
+    {
+        let before = self.preliminary;
+        let trusted = self.reliable;
+        let speech = runs::is_speech(probability);
+        let turn = runs::step(speech, self.threshold, self.count);
+        let more = before.advanced(peak, level);
+        let back = pick_peaks(turn.throw, trusted, before);
+        let preliminary = pick_peaks(speech, more, back);
+        let reliable = pick_peaks(turn.keep, before, trusted);
+        let headroom = floats::pick_f32(turn.publish, preliminary.headroom, self.headroom);
+        Protector {
+            initial: self.initial,
+            threshold: self.threshold,
+            count: turn.count,
+            headroom,
+            preliminary,
+            reliable,
+        }
+    }
+
+    // The protector at its start again, but for the storage of its rings. A state that fails its test is
+    // refused with 4.
+    pub fn reset(self) -> Next
+        ensures { λ r. ⌜ r ≡ reset self ⌝ }
+    {
+        let ok = self.passes();
+        let reply = refusal(true, ok, true, true);
+        if ok {
+            let initial = self.initial;
+            let before = self.preliminary;
+            let trusted = self.reliable;
+            let preliminary = before.restarted(initial);
+            let reliable = trusted.restarted(initial);
+            Next {
+                reply,
+                protector: Protector {
+                    initial,
+                    threshold: self.threshold,
+                    count: 0,
+                    headroom: initial,
+                    preliminary,
+                    reliable,
+                },
+            }
+        } else {
+            Next {
+                reply,
+                protector: self,
+            }
+        }
+    }
+
+    // The published headroom. A state that fails its test is refused with 4.
+    pub fn headroom_db(self) -> Headroom
+        ensures { λ r. ⌜ r ≡ told self ⌝ }
+    {
+        let ok = self.passes();
+        Headroom {
+            reply: refusal(true, ok, true, true),
+            headroom: Db(floats::pick_f32(ok, self.headroom, 0.0)),
+        }
+    }
+}
