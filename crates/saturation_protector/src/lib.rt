@@ -97,7 +97,8 @@ fn oldest_or(ring: Ring, other: f32) -> f32
     ensures { λ r. ⌜ r ≡ oldestOr (items ring) other ⌝ }
 {
     let found = ring.front();
-    match found.front {
+    let front = found.front;
+    match front {
         Front::None => other,
         Front::Oldest(peak) => peak.0,
     }
