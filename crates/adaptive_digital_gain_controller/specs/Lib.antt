@@ -1,0 +1,5 @@
+-- The gain of a frame: its target, its change, the controller's state, what each call answers, and what is proved of it.
+pub mod Target
+pub mod Change
+pub mod Controller
+pub mod Calls
