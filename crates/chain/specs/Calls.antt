@@ -1,0 +1,111 @@
+-- What each call of the chain answers, refusals first. Definitions only.
+use mathlib.Core.Bool.{true, _&&_, cond}
+use mathlib.Core.List.{List}
+use Prim.Native.Nat.{ℕ}
+use lib.Dec.{eqb}
+use lib.Ieee.{Float}
+use Rattle.units.specs.Replies.{done, refusal}
+use Rattle.units.specs.Settings as Settings
+use Rattle.units.specs.declared.settings.Settings.{Settings as Set}
+use Rattle.frames.specs.Shape.{isSamples}
+use Rattle.frames.specs.Samples.{largestInput}
+use Rattle.frames.specs.Refusal.{frameRefusal}
+use Rattle.runs.specs.Runs.{speech}
+use Rattle.speech_level_estimator.specs.Estimator as Level
+use Rattle.saturation_protector.specs.Protector as Headroom
+use Rattle.adaptive_digital_gain_controller.specs.Controller as Gain
+use Rattle.adaptive_digital_gain_controller.specs.Calls as Gaining
+use Rattle.adaptive_digital_gain_controller.specs.declared.Info.{Info}
+use Rattle.limiter.specs.Limiter as Limiting
+use Rattle.chain.specs.Answer.{Said, said, nonSpeech, answerOf}
+use Rattle.chain.specs.Chain.{initial, accepted, passes, samplesOf}
+use Rattle.chain.specs.declared.Chain.{Chain}
+use Rattle.chain.specs.declared.Figures.{Figures}
+use Rattle.chain.specs.declared.Made.{Made}
+use Rattle.chain.specs.declared.Next.{Next}
+
+-- ---- a new chain
+unfoldable pub fresh : Set → ℕ → ℕ → Chain
+unfolding Level.fresh Level.startingLevel Headroom.fresh Gain.fresh Limiting.starting
+fresh s t samples =
+    record {
+      estimator = Level.fresh s t (Level.startingLevel s);
+      protector = Headroom.fresh initial t;
+      controller = Gain.fresh s t;
+      limiter = Limiting.starting samples;
+    }
+
+-- all fields 0, false and identity
+unfoldable pub nothing : Chain
+unfolding Level.nothing Headroom.nothing Gain.nothing Limiting.none
+nothing = record { estimator = Level.nothing; protector = Headroom.nothing; controller = Gain.nothing; limiter = Limiting.none }
+
+-- 1 for the samples comes before 4 for the settings and the threshold
+unfoldable pub made : Set → ℕ → ℕ → Made
+unfolding refusal isSamples Settings.accepted fresh nothing
+made s t samples =
+    let setting = Settings.accepted s && Settings.threshold t in
+    record { reply = refusal (isSamples samples) setting true true; chain = cond (isSamples samples && setting) (fresh s t samples) nothing }
+
+-- ---- a frame
+-- "Protector and controller take this same frame's published level, the controller its headroom too": what the controller is told
+unfoldable pub informed : Level.Estimator → Headroom.Protector → Figures → Info
+informed e s f =
+    record {
+      probability = f .probability;
+      level = record { 0 = e .level };
+      reliable = e .confident;
+      noise = f .noise;
+      headroom = record { 0 = s .headroom };
+      envelope = f .envelope;
+    }
+
+-- a chain after a frame, the frame as it leaves it, and what it was
+pub record Stepped : Type 0 where
+  pub chain : Chain
+  pub frame : List Float
+  pub answer : Said
+
+-- "the chain (level estimator, protector, controller, limiter, in that order ..)"
+unfoldable pub stepped : Chain → Figures → List Float → ℕ → ℕ → Stepped
+unfolding Level.updated Headroom.analyzed Gaining.processed Limiting.processed informed answerOf
+stepped c f frame channels samples =
+    let e = Level.updated (c .estimator) (f .rms .0) (f .probability) in
+    let s = Headroom.analyzed (c .protector) (f .probability) (f .peak .0) (e .level) in
+    let g = Gaining.processed (c .controller) (informed e s f) frame channels samples in
+    let l = Limiting.processed (c .limiter) (g .frame) channels samples in
+    record {
+      chain = record { estimator = e; protector = s; controller = g .next .controller; limiter = l .next .limiter };
+      frame = l .frame;
+      answer = answerOf (speech (f .probability)) (e .threshold) (e .count) (e .level) (s .headroom);
+    }
+
+-- what an answer says: the reply's number, what the frame was, and the chain
+pub record Told : Type 0 where
+  pub reply : ℕ
+  pub answer : Said
+  pub chain : Chain
+
+unfoldable pub told : Next → Told
+unfolding said
+told n = record { reply = n .reply; answer = said (n .answer); chain = n .chain }
+
+-- what a frame is refused with: "1: .. or samples not those the .. chain was set to"; the bound of a sample is the controller's
+unfoldable pub refused : Chain → Figures → List Float → ℕ → ℕ → ℕ
+unfolding frameRefusal passes accepted
+refused c f frame channels samples = frameRefusal frame channels samples (eqb samples (samplesOf c)) (passes c) (accepted f) largestInput
+
+-- a call over a lent frame: what it tells, and the frame as it leaves it; a refused one changes nothing and answers N
+pub record Called : Type 0 where
+  pub told : Told
+  pub frame : List Float
+
+unfoldable pub called : Chain → Figures → List Float → ℕ → ℕ → Called
+unfolding refused stepped
+called c f frame channels samples =
+    let reply = refused c f frame channels samples in
+    let next = stepped c f frame channels samples in
+    record {
+      told = record { reply = reply; answer = cond (eqb reply done) (next .answer) nonSpeech; chain = cond (eqb reply done) (next .chain) c };
+      frame = cond (eqb reply done) (next .frame) frame;
+    }
