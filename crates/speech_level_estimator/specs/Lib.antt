@@ -2,3 +2,4 @@
 pub mod Average
 pub mod Estimator
 pub mod Calls
+pub mod Laws
