@@ -1,4 +1,6 @@
-use Rattle.speech_level_estimator.specs.Average.{passes}
+use lib.Dec.{T}
+use lib.Ieee.{binary32, fits}
+use Rattle.speech_level_estimator.specs.Laws.Facts.{passes-exact}
 use borrow.Author.Needs.{needs}
 use native.Mathlib.Omega.{arith}
 use Rattle.speech_level_estimator.proofs.Average.passes.Statement.{statement}
@@ -27,8 +29,13 @@ f32-to-f64-with-nan-requires-2 c κs = search needs
 
 -- src/lib.rt:110:5
 returns : tie.Need-returns
-unfolding passes
-returns c = ?
+returns c =
+    let b = c .before .before .before .before in
+    let a = b .before .before .before .before .args .self in
+    let f : T (fits binary32 (a .sum)) = search needs in
+    let g : T (fits binary32 (a .weight)) = search needs in
+    rw (b .before .before .nearest-u32-to-f32 .ensures, b .before .before .before .less .ensures, b .before .f32-to-f64-with-nan .ensures, b .f32-to-f64-with-nan2 .ensures)
+    (passes-exact a (record { sum = f; weight = g }))
 
 pub passes-spec : {M : Type 1} → statement M
 passes-spec =
