@@ -2,3 +2,4 @@
 pub mod Peaks
 pub mod Protector
 pub mod Calls
+pub mod Laws

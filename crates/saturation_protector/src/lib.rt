@@ -2,6 +2,7 @@
 
 ghost use mathlib.Core.Path.{_≡_};
 ghost use mathlib.Core.Bool.{cond, true};
+ghost use Rattle.units.specs.Figures.{level as isLevel};
 ghost use Rattle.saturation_protector_buffer.specs.Ring.{passes as passesRing, items};
 ghost use Rattle.saturation_protector.specs.Peaks.{allLevels, none, starting, passes, oldestOr, nearer, restarted, advanced};
 ghost use Rattle.saturation_protector.specs.Protector.{passes as passesProtector, analyzed};
@@ -172,7 +173,7 @@ impl Peaks {
 
     // The state with one frame more, of this peak and this level of the speech.
     fn advanced(self, peak: f32, level: f32) -> Peaks
-        requires { ⌜ passes self ≡ true ⌝ }
+        requires { ⌜ (passes self ≡ true) × (isLevel peak ≡ true) ⌝ }
         ensures { λ r. ⌜ r ≡ advanced peak level self ⌝ }
     {
         let before = self.ring;
@@ -260,7 +261,7 @@ impl Protector {
 
     // The protector after a frame.
     fn analyzed(self, probability: f32, peak: f32, level: f32) -> Protector
-        requires { ⌜ passesProtector self ≡ true ⌝ }
+        requires { ⌜ (passesProtector self ≡ true) × (isLevel peak ≡ true) ⌝ }
         ensures { λ r. ⌜ r ≡ analyzed self probability peak level ⌝ }
     {
         let before = self.preliminary;

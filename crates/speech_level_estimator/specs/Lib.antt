@@ -2,3 +2,5 @@
 pub mod Average
 pub mod Estimator
 pub mod Calls
+pub mod Held
+pub mod Laws

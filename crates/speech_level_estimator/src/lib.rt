@@ -114,12 +114,9 @@ impl Average {
         // In f64 neither the product nor the sum is rounded.
         let sum = std::num::f32_to_f64_with_nan(self.sum);
         let bound = 151.0 * std::num::f32_to_f64_with_nan(self.weight);
-        (self.left <= CONFIDENT)
-            & (self.left % FRAME == 0)
-            & (1.0 <= self.weight)
-            & (self.weight <= most)
-            & (sum <= bound)
-            & (0.0 - bound <= sum)
+        ((self.left <= CONFIDENT) & (self.left % FRAME == 0))
+            & ((1.0 <= self.weight) & (self.weight <= most))
+            & ((sum <= bound) & (-bound <= sum))
     }
 
     // The average with one frame more, of this level and this weight. The sum and the weight so far leak

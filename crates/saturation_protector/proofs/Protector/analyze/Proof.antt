@@ -1,0 +1,71 @@
+-- `saturation_protector::Protector::analyze` meets its contract: a frame that is not refused has a state that passes and a peak in its range. Assumes nothing.
+use mathlib.Core.Path.{sym, _∙_}
+use Rattle.saturation_protector_buffer.specs.Laws.Tests.{both}
+use Rattle.saturation_protector.specs.Calls.{stepped}
+use borrow.Author.Needs.{needs}
+use Rattle.saturation_protector.proofs.Protector.analyze.Statement.{statement}
+use Rattle.saturation_protector.proofs.Protector.analyze.Tie as tie
+
+passes-requires : tie.Need-passes-requires
+passes-requires c κs = search needs
+
+is-probability-requires : tie.Need-is-probability-requires
+is-probability-requires c κs = search needs
+
+is-level-requires : tie.Need-is-level-requires
+is-level-requires c κs = search needs
+
+is-level-requires-2 : tie.Need-is-level-requires-2
+is-level-requires-2 c κs = search needs
+
+refusal-requires : tie.Need-refusal-requires
+refusal-requires c κs = search needs
+
+analyzed-requires : tie.Need-analyzed-requires
+analyzed-requires c κs =
+    let tests = c .before .before in
+    let p = tests .before .before .before .passes in
+    let three = both (p .result) _ (c .if1 .taken) in
+    let two = both _ (tests .is-level2 .result) (three .1) in
+    let peak = both (tests .before .before .is-probability .result) (tests .before .is-level .result) (two .0) in
+    (sym (p .ensures) ∙ three .0, sym (tests .before .is-level .ensures) ∙ peak .1)
+
+returns : tie.Need-returns
+unfolding stepped
+returns c =
+    let tests = c .before .before .before in
+    rw (
+      c .analyzed .ensures,
+      c .before .before .refusal .ensures,
+      ← tests .before .before .before .passes .ensures,
+      ← tests .before .before .is-probability .ensures,
+      ← tests .before .is-level .ensures,
+      ← tests .is-level2 .ensures,
+      c .before .if1 .taken,
+    )
+
+returns-2 : tie.Need-returns-2
+unfolding stepped
+returns-2 c =
+    let tests = c .before .before in
+    rw (
+      c .before .refusal .ensures,
+      ← tests .before .before .before .passes .ensures,
+      ← tests .before .before .is-probability .ensures,
+      ← tests .before .is-level .ensures,
+      ← tests .is-level2 .ensures,
+      c .if1 .left,
+    )
+
+pub analyze-spec : {M : Type 1} → statement M
+analyze-spec =
+    tie.close
+    (tie.spec
+    passes-requires
+    is-probability-requires
+    is-level-requires
+    is-level-requires-2
+    refusal-requires
+    analyzed-requires
+    returns
+    returns-2)

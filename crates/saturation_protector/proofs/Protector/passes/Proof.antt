@@ -1,0 +1,35 @@
+-- `saturation_protector::Protector::passes` meets its contract: six tests. Assumes nothing.
+use Rattle.saturation_protector.specs.Protector.{passes}
+use borrow.Author.Needs.{needs}
+use Rattle.saturation_protector.proofs.Protector.passes.Statement.{statement}
+use Rattle.saturation_protector.proofs.Protector.passes.Tie as tie
+
+is-headroom-requires : tie.Need-is-headroom-requires
+is-headroom-requires c κs = search needs
+
+is-threshold-requires : tie.Need-is-threshold-requires
+is-threshold-requires c κs = search needs
+
+is-headroom-requires-2 : tie.Need-is-headroom-requires-2
+is-headroom-requires-2 c κs = search needs
+
+passes-requires : tie.Need-passes-requires
+passes-requires c κs = search needs
+
+passes-requires-2 : tie.Need-passes-requires-2
+passes-requires-2 c κs = search needs
+
+returns : tie.Need-returns
+unfolding passes
+returns c = cc
+
+pub passes-spec : {M : Type 1} → statement M
+passes-spec =
+    tie.close
+    (tie.spec
+    is-headroom-requires
+    is-threshold-requires
+    is-headroom-requires-2
+    passes-requires
+    passes-requires-2
+    returns)

@@ -1,0 +1,6 @@
+-- What is true of the definitions beside this file.
+pub mod Tests
+pub mod Oldest
+pub mod Rings
+pub mod Frames
+pub mod Chosen
