@@ -12,10 +12,13 @@ use Rattle.frames.specs.Samples.{largestInput}
 use Rattle.frames.specs.Refusal.{frameRefusal}
 use Rattle.runs.specs.Runs.{speech}
 use Rattle.speech_level_estimator.specs.Estimator as Level
+use Rattle.speech_level_estimator.specs.declared.Estimator.{Estimator}
+use Rattle.saturation_protector.specs.declared.Protector.{Protector}
 use Rattle.saturation_protector.specs.Protector as Headroom
 use Rattle.adaptive_digital_gain_controller.specs.Controller as Gain
 use Rattle.adaptive_digital_gain_controller.specs.Calls as Gaining
 use Rattle.adaptive_digital_gain_controller.specs.declared.Info.{Info}
+use Rattle.gain_applier.specs.Applier as Applying
 use Rattle.limiter.specs.Limiter as Limiting
 use Rattle.chain.specs.Answer.{Said, said, nonSpeech, answerOf}
 use Rattle.chain.specs.Chain.{initial, accepted, passes, samplesOf}
@@ -49,7 +52,7 @@ made s t samples =
 
 -- ---- a frame
 -- "Protector and controller take this same frame's published level, the controller its headroom too": what the controller is told
-unfoldable pub informed : Level.Estimator → Headroom.Protector → Figures → Info
+unfoldable pub informed : Estimator → Protector → Figures → Info
 informed e s f =
     record {
       probability = f .probability;
@@ -66,17 +69,18 @@ pub record Stepped : Type 0 where
   pub frame : List Float
   pub answer : Said
 
--- "the chain (level estimator, protector, controller, limiter, in that order ..)"
+-- "the chain (level estimator, protector, controller, limiter, in that order ..)": the controller decides on the gain, its applier puts it on the frame
 unfoldable pub stepped : Chain → Figures → List Float → ℕ → ℕ → Stepped
-unfolding Level.updated Headroom.analyzed Gaining.processed Limiting.processed informed answerOf
+unfolding Level.updated Headroom.analyzed Gain.decided Applying.applied Gaining.with-applier Limiting.processed informed answerOf
 stepped c f frame channels samples =
     let e = Level.updated (c .estimator) (f .rms .0) (f .probability) in
     let s = Headroom.analyzed (c .protector) (f .probability) (f .peak .0) (e .level) in
-    let g = Gaining.processed (c .controller) (informed e s f) frame channels samples in
-    let l = Limiting.processed (c .limiter) (g .frame) channels samples in
+    let g = Gain.decided (c .controller) (informed e s f) in
+    let put = Applying.applied (g .applier) frame channels samples in
+    let limited = Limiting.processed (c .limiter) (put .frame) channels samples in
     record {
-      chain = record { estimator = e; protector = s; controller = g .next .controller; limiter = l .next .limiter };
-      frame = l .frame;
+      chain = record { estimator = e; protector = s; controller = Gaining.with-applier g (put .next .applier); limiter = limited .next .limiter };
+      frame = limited .frame;
       answer = answerOf (speech (f .probability)) (e .threshold) (e .count) (e .level) (s .headroom);
     }
 

@@ -5,7 +5,7 @@ use mathlib.Core.Bool.{Bool, true, false, _&&_, _||_, cond}
 use mathlib.Core.List.{List, [], _∷_}
 use Prim.Native.Nat.{ℕ, suc, _+_}
 use lib.Dec.{ltb}
-use Rattle.chain.specs.Histories.{Frame, Event, frame, isSpeech}
+use Rattle.chain.specs.Histories.{Event, isSpeech, figuresOf, soundOf}
 use Rattle.chain.specs.Chain.{accepted}
 
 -- how many speech frames come first
@@ -31,19 +31,17 @@ unfolding ahead ends
 inShort t k e es = isSpeech e && ends es && ltb (k + 1 + ahead es) t
 
 -- "change probability, level and peak of their frames to those of any accepted non-speech frame": all else stays
-pub record Silenced (e d : Frame) : Type 0 where
-  pub silent : isSpeech (frame d) ≡ false
-  pub taken : accepted (d .figures) ≡ true
-  pub noise : d .figures .noise ≡ e .figures .noise
-  pub envelope : d .figures .envelope ≡ e .figures .envelope
-  pub sound : d .sound ≡ e .sound
-  pub channels : d .channels ≡ e .channels
-  pub samples : d .samples ≡ e .samples
+pub record Silenced (e d : Event) : Type 0 where
+  pub silent : isSpeech d ≡ false
+  pub taken : accepted (figuresOf d) ≡ true
+  pub noise : figuresOf d .noise ≡ figuresOf e .noise
+  pub envelope : figuresOf d .envelope ≡ figuresOf e .envelope
+  pub sound : soundOf d ≡ soundOf e
 
--- Behind k adjacent speech frames the second history is the first, but for frames of short closed runs: any of them, so any choice of runs too.
--- Each step says whether it changes its frame.
-pub data Changed (t : ℕ) : ℕ → List Event → List Event → Type 0 where
-  none : {k : ℕ} → Changed t k [] []
-  same : {k : ℕ} {e : Event} {es ds : List Event} → Changed t (grown k e) es ds → Changed t k (e ∷ es) (e ∷ ds)
-  other : {k : ℕ} {e d : Frame} {es ds : List Event} → inShort t k (frame e) es ≡ true → Silenced e d → Changed t (grown k (frame e)) es ds
-      → Changed t k (frame e ∷ es) (frame d ∷ ds)
+-- Behind k adjacent speech frames the second history is the first, but for frames of short closed runs: any of them, and so any choice of runs too.
+unfoldable pub Changed : ℕ → ℕ → List Event → List Event → Type 0
+unfolding inShort grown
+Changed t k [] [] = Unit {0}
+Changed t k [] (d ∷ ds) = ⊥
+Changed t k (e ∷ es) [] = ⊥
+Changed t k (e ∷ es) (d ∷ ds) = ((e ≡ d) ⊎ ((inShort t k e es ≡ true) × Silenced e d)) × Changed t (grown k e) es ds

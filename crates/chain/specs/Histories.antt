@@ -8,20 +8,26 @@ use Rattle.chain.specs.Calls.{Called, called}
 use Rattle.chain.specs.declared.Chain.{Chain}
 use Rattle.chain.specs.declared.Figures.{Figures}
 
--- a frame with its figures
-pub record Frame : Type 0 where
-  pub figures : Figures
-  pub sound : List Float
+-- a frame of sound: the lent buffer, its channels and their samples
+pub record Sound : Type 0 where
+  pub buffer : List Float
   pub channels : ℕ
   pub samples : ℕ
 
+-- a frame with its figures
 pub data Event : Type 0 where
-  frame : Frame → Event
+  frame : Figures → Sound → Event
+
+abbrev pub figuresOf : Event → Figures
+figuresOf (frame f s) = f
+
+abbrev pub soundOf : Event → Sound
+soundOf (frame f s) = s
 
 -- the call that an event makes
 unfoldable pub callOf : Chain → Event → Called
 unfolding called
-callOf c (frame f) = called c (f .figures) (f .sound) (f .channels) (f .samples)
+callOf c (frame f s) = called c f (s .buffer) (s .channels) (s .samples)
 
 -- the chain after an event: "a refused call changes nothing"
 unfoldable pub next : Chain → Event → Chain
@@ -61,4 +67,4 @@ published c (e ∷ es) = publishedBy c e ∷ published (next c e) es
 
 -- whether an event is a speech frame: "probability against 0.95"
 unfoldable pub isSpeech : Event → Bool
-isSpeech (frame f) = speech (f .figures .probability)
+isSpeech e = speech (figuresOf e .probability)
