@@ -3,3 +3,4 @@ pub mod Counts
 pub mod Short
 pub mod Apart
 pub mod Published
+pub mod Near
