@@ -1,6 +1,7 @@
 -- Two histories that differ only in speech runs that are shorter than the threshold and closed by a non-speech frame. Which runs these are is
 -- said by the events alone. Definitions only.
 use mathlib.Core.Path.{_≡_}
+use mathlib.Core.Logic.{_⊎_, inl, inr}
 use mathlib.Core.Bool.{Bool, true, false, _&&_, _||_, cond}
 use mathlib.Core.List.{List, [], _∷_}
 use Prim.Native.Nat.{ℕ, suc, _+_}
@@ -45,3 +46,12 @@ Changed t k [] [] = Unit {0}
 Changed t k [] (d ∷ ds) = ⊥
 Changed t k (e ∷ es) [] = ⊥
 Changed t k (e ∷ es) (d ∷ ds) = ((e ≡ d) ⊎ ((inShort t k e es ≡ true) × Silenced e d)) × Changed t (grown k e) es ds
+
+-- whether an event was changed
+unfoldable pub isChanged : {A B : Type 0} → A ⊎ B → Bool
+isChanged (inl same) = false
+isChanged (inr other) = true
+
+-- whether a run is open after an event of which a frame was changed
+unfoldable pub opens : Bool → Bool → Event → Bool
+opens touched changed e = (touched || changed) && isSpeech e

@@ -4,7 +4,7 @@ use mathlib.Core.List.{List, [], _∷_}
 use Prim.Native.Nat.{ℕ}
 use lib.Ieee.{Float}
 use Rattle.runs.specs.Runs.{speech}
-use Rattle.chain.specs.Calls.{Called, called}
+use Rattle.chain.specs.Calls.{Stepped, stepped, Called, called}
 use Rattle.chain.specs.declared.Chain.{Chain}
 use Rattle.chain.specs.declared.Figures.{Figures}
 
@@ -23,6 +23,11 @@ figuresOf (frame f s) = f
 
 abbrev pub soundOf : Event → Sound
 soundOf (frame f s) = s
+
+-- the step of an event, where it is not refused
+unfoldable pub stepOf : Chain → Event → Stepped
+unfolding stepped
+stepOf c (frame f s) = stepped c f (s .buffer) (s .channels) (s .samples)
 
 -- the call that an event makes
 unfoldable pub callOf : Chain → Event → Called

@@ -4,3 +4,4 @@ pub mod Answer
 pub mod Calls
 pub mod Histories
 pub mod Changes
+pub mod Laws

@@ -89,3 +89,9 @@ pub turned-framed : {S : Type 0} (speech : Bool) (advance : S → S) (t : ℕ) (
 unfolding framed advanced closed turned
 turned-framed true advance t r = refl
 turned-framed false advance t r = refl
+
+-- The count after a frame.
+pub framed-count : {S : Type 0} (speech : Bool) (advance : S → S) (t : ℕ) (r : Run S) → framed speech advance t r .count ≡ cond speech (longer t (r .count)) 0
+unfolding framed advanced closed
+framed-count true advance t r = refl
+framed-count false advance t r = refl

@@ -1,0 +1,5 @@
+-- What is true of the definitions beside this file.
+pub mod Parts
+pub mod Steps
+pub mod Ground
+pub mod NoTrace
