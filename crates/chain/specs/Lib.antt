@@ -1,7 +1,4 @@
--- The chain: its state, the frame's answer, what each call answers, histories, and what is proved of them.
+-- The chain: its state, the frame's answer, what each call answers, and what is proved of it.
 pub mod Chain
 pub mod Answer
 pub mod Calls
-pub mod Histories
-pub mod Changes
-pub mod Laws

@@ -22,11 +22,11 @@ use Rattle.adaptive_digital_gain_controller.specs.Change.{waits}
 use Rattle.adaptive_digital_gain_controller.specs.Controller as Gain
 use Rattle.adaptive_digital_gain_controller.specs.Calls.{with-applier}
 use Rattle.limiter.specs.Limiter as Limiting
 use Rattle.chain.specs.Calls.{informed, stepped, fresh}
 use Rattle.chain.specs.declared.Chain.{Chain}
 use Rattle.chain.specs.declared.Figures.{Figures}
-use Rattle.chain.specs.Laws.Parts.{LevelBeside, HeadroomBeside, GainBeside, shownLevel, shownHeadroom, headroomOf}
-use Rattle.chain.specs.Laws.Steps.{Beside, updated-count, analyzed-count}
+use Rattle.histories.specs.Laws.Parts.{LevelBeside, HeadroomBeside, GainBeside, shownLevel, shownHeadroom, headroomOf}
+use Rattle.histories.specs.Laws.Steps.{Beside, updated-count, analyzed-count}
 
 -- its parts have one threshold, and where no run is open their two states are alike
 pub record Ground (t : ℕ) (c : Chain) : Type 0 where

@@ -23,12 +23,12 @@ use Rattle.adaptive_digital_gain_controller.specs.Calls.{with-applier}
 use Rattle.adaptive_digital_gain_controller.specs.declared.Controller.{Controller}
 use Rattle.limiter.specs.Limiter as Limiting
 use Rattle.limiter.specs.declared.Limiter.{Limiter}
 use Rattle.chain.specs.Answer.{answerOf}
 use Rattle.chain.specs.Calls.{informed, Stepped, stepped}
-use Rattle.chain.specs.Histories.{Sound, Event, frame}
+use Rattle.histories.specs.Histories.{Sound, Event, frame}
 use Rattle.chain.specs.declared.Chain.{Chain}
 use Rattle.chain.specs.declared.Figures.{Figures}
-use Rattle.chain.specs.Laws.Parts.{LevelBeside, level-stays, level-closes, level-published, trusted-below, HeadroomBeside, headroom-stays, headroom-closes, GainBeside, InfoBeside, gain-stays, gain-closes}
+use Rattle.histories.specs.Laws.Parts.{LevelBeside, level-stays, level-closes, level-published, trusted-below, HeadroomBeside, headroom-stays, headroom-closes, GainBeside, InfoBeside, gain-stays, gain-closes}
 
 -- ---- what an update leaves of the estimator, and an analysis of the protector
 pub updated-count : (e : Estimator) (r p : Float) → Level.updated e r p .count ≡ cond (speech p) (longer (e .threshold) (e .count)) 0

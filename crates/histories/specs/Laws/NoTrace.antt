@@ -11,13 +11,13 @@ use lib.Dec.{ltb}
 use borrow.Author.Tests.{ltb-true}
 use Rattle.frames.specs.Facts.{and-first, and-second}
 use Rattle.runs.specs.Runs.{speech}
 use Rattle.chain.specs.Calls.{Stepped, stepped}
-use Rattle.chain.specs.Histories.{Sound, Event, frame, figuresOf, soundOf, isSpeech, stepOf}
-use Rattle.chain.specs.Changes.{ahead, ends, grown, inShort, Silenced, isChanged, opens}
+use Rattle.histories.specs.Histories.{Sound, Event, frame, figuresOf, soundOf, isSpeech, stepOf}
+use Rattle.histories.specs.Changes.{ahead, ends, grown, inShort, Silenced, isChanged, opens}
 use Rattle.chain.specs.declared.Chain.{Chain}
 use Rattle.chain.specs.declared.Figures.{Figures}
-use Rattle.chain.specs.Laws.Steps.{Beside, Same, step-stays, step-same, step-closes}
-use Rattle.chain.specs.Laws.Ground.{Good, step-good, closed-good, good-beside, beside-ground}
+use Rattle.histories.specs.Laws.Steps.{Beside, Same, step-stays, step-same, step-closes}
+use Rattle.histories.specs.Laws.Ground.{Good, step-good, closed-good, good-beside, beside-ground}
 
 -- how two chains stand to each other before events, by whether a changed run is open: they are the same; or they are beside each other, and the run will
 -- be closed below the threshold

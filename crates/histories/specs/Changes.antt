@@ -6,8 +6,8 @@ use mathlib.Core.Bool.{Bool, true, false, _&&_, _||_, cond}
 use mathlib.Core.List.{List, [], _∷_}
 use Prim.Native.Nat.{ℕ, suc, _+_}
 use lib.Dec.{ltb}
-use Rattle.chain.specs.Histories.{Event, isSpeech, figuresOf, soundOf}
+use Rattle.histories.specs.Histories.{Event, isSpeech, figuresOf, soundOf}
 use Rattle.chain.specs.Chain.{accepted}
 
 -- how many speech frames come first
 unfoldable pub ahead : List Event → ℕ

@@ -1,0 +1,4 @@
+-- The chain over histories: what they are, which frames of them count, and the theorems on them.
+pub mod Histories
+pub mod Changes
+pub mod Laws
