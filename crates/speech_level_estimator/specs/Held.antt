@@ -9,7 +9,7 @@ pub record Held (a : Average) : Type 0 where
   pub sum : T (fits binary32 (a .sum))
   pub weight : T (fits binary32 (a .weight))
 
--- the two settings that the starting level is made of
+-- of the settings, the two that the starting level is made of that the starting level is made of
 pub record HeldSettings (s : Settings) : Type 0 where
   pub headroom : T (fits binary32 (s .headroom .0))
   pub initial : T (fits binary32 (s .initial .0))
@@ -17,5 +17,6 @@ pub record HeldSettings (s : Settings) : Type 0 where
 pub record HeldEstimator (e : Estimator) : Type 0 where
   pub settings : HeldSettings (e .settings)
   pub initial : T (fits binary32 (e .initial))
+  pub level : T (fits binary32 (e .level))
   pub preliminary : Held (e .preliminary)
   pub reliable : Held (e .reliable)

@@ -6,3 +6,4 @@ pub mod Figures
 pub mod Advance
 pub mod Level
 pub mod Again
+pub mod Short

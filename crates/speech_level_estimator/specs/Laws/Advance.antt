@@ -40,8 +40,7 @@ heavier w l p left h k q =
     let a = rnd-most (P (mul binary32 w l) + P p) 1 (k .top + 1) (lit< tt) (omega arith) sum in
     let low = small-lo (P w * P l) U U-pos (roomy (P w * P l) (k .top) U U (omega arith) U-pos U-pos exact) in
     let low' = small-lo (P (mul binary32 w l) + P p) 1 (lit< tt) (roomy (P (mul binary32 w l) + P p) (k .top + 1) U 1 (omega arith) U-pos (lit< tt) sum) in
-    let off = both (P w * P l) m (P (mul binary32 w l)) (P p) (rnd (P (mul binary32 w l) + P p) 1) (P (add binary32 (mul binary32 w l) p)) U u (x .plus) (y .plus) low low' in
-    (
+    let off = both (P w * P l) m (P (mul binary32 w l)) (P p) (rnd (P (mul binary32 w l) + P p) 1) (P (add binary32 (mul binary32 w l) p)) U u (x .plus) (y .plus) low low' in (
       record {
         number = y .number;
         none-below = y .minus;
@@ -101,8 +100,7 @@ fuller s w l r p v left n h small k m q off =
     let f1 = large-hi ((P s + N s) * P l) U U-pos (roomy ((P s + N s) * P l) 67950 131072 U U (lit< tt) U-pos U-pos top1) in
     let f2 = small-hi ((P r + N r) * P p) U U-pos (roomy ((P r + N r) * P p) 150 512 U U (lit< tt) U-pos U-pos top2) in
     let f3 = large-hi a 1 (lit< tt) (roomy a 68100 131072 U 1 (lit< tt) U-pos (lit< tt) top3) in
-    let sum : a ≤ r1 + r2 = omega arith in
-    (
+    let sum : a ≤ r1 + r2 = omega arith in (
       z .number,
       le-of-mul-le-mul-right
           (count (P s + N s) (P w) (P l) (P r + N r) (P p) r1 r2 a (rnd a 1) (P out + N out) (P v) U u U-is small (m .most) (q .least) f1 f2 f3 sum (z .most) off) U-pos,

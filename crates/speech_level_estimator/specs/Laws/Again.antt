@@ -23,7 +23,7 @@ use Rattle.speech_level_estimator.specs.Calls.{made, figures, stepped, r
 use Rattle.speech_level_estimator.specs.Held.{Held, HeldSettings, HeldEstimator}
 use Rattle.speech_level_estimator.specs.declared.Average.{Average as State}
 use Rattle.speech_level_estimator.specs.declared.Estimator.{Estimator}
-use Rattle.speech_level_estimator.specs.Laws.Facts.{so, Passed, passed, passing}
+use Rattle.speech_level_estimator.specs.Laws.Facts.{so, one-value, Passed, passed, passing}
 use Rattle.speech_level_estimator.specs.Laws.Advance.{advanced-passed, passed-held}
 use Rattle.speech_level_estimator.specs.Laws.Level.{lowest, highest, in-closed, level-in, starting-level-in, wider, equals-itself, equal-in, starting-passed}
 
@@ -136,7 +136,7 @@ updated-passes e r p held f g h t =
 
 -- ---- of the calls: where the reply is 0, the state that comes out passes
 -- the replies 4 and 2 are not 0
-two : (setting figure : Bool) → refusal true setting figure true ≡ done → (setting ≡ true) × (figure ≡ true)
+pub two : (setting figure : Bool) → refusal true setting figure true ≡ done → (setting ≡ true) × (figure ≡ true)
 unfolding refusal
 two true true h = (refl, refl)
 two true false h = absurd (omega arith)
@@ -176,3 +176,43 @@ unfolding levelTold
 published-in-range e h =
     let k = two (passes e) true h .0 in
     rw k (so (closed lowest (e .level) highest) (sound e k .level))
+
+-- ---- and its numbers are f32
+fresh-held : (s : Settings) (t : ℕ) (x : Float) → HeldSettings s → T (fits binary32 x) → HeldEstimator (fresh s t x)
+unfolding fresh Average.starting
+fresh-held s t x held f =
+    let a : Held (Average.starting x) = record { sum = f; weight = one-value .number .held } in
+    record { settings = held; initial = f; level = f; preliminary = a; reliable = a }
+
+-- The numbers of a new estimator that is not refused are f32,
+pub made-held : (s : Settings) (t : ℕ) → HeldSettings s → made s t .reply ≡ done → HeldEstimator (made s t .estimator)
+unfolding made
+made-held s t held h =
+    let ok = two (accepted s && threshold t) true h .0 in
+    rw ok (fresh-held s t (startingLevel s) held (starting-level-in s held (and-l (accepted s) (threshold t) (holds ok)) .number .held))
+
+-- and so they are after a frame
+pub stepped-held : (e : Estimator) (r p : Float) → HeldEstimator e → T (fits binary32 r) → T (fits binary32 p) → stepped e r p .reply ≡ done → HeldEstimator (stepped e r p .estimator)
+unfolding stepped updated
+stepped-held e r p held f g h =
+    let k = two (passes e) (figures r p) h in
+    let s = sound e (k .0) in
+    let t = holds (k .1) in
+    let both = so (passes e && figures r p) (and-i (passes e) (figures r p) (holds (k .0)) t) in
+    let pre = passed (e .preliminary) (held .preliminary) (so (Average.passes (e .preliminary)) (s .preliminary)) in
+    let rel = passed (e .reliable) (held .reliable) (so (Average.passes (e .reliable)) (s .reliable)) in
+    let next = framed (speech p) (Average.advanced r p) (e .threshold) (run e) in
+    let kept = framed-keeps Passed (speech p) (Average.advanced r p) (e .threshold) (run e) pre rel (λ (j : T (speech p)). advanced-passed (e .preliminary) r p pre f g (and-l (rms r) (probability p) t) (and-r (rms r) (probability p) t) j) in
+    rw both
+    (record {
+      settings = held .settings;
+      initial = held .initial;
+      level = either (λ (x : Float). T (fits binary32 x)) (published (speech p) (e .threshold) (e .count)) (level-in (next .preliminary) (kept .0) .number .held) (held .level);
+      preliminary = passed-held (next .preliminary) (kept .0);
+      reliable = passed-held (next .reliable) (kept .1);
+    })
+
+-- and after a reset.
+pub restarted-held : (e : Estimator) → HeldEstimator e → restarted e .reply ≡ done → HeldEstimator (restarted e .estimator)
+unfolding restarted
+restarted-held e held h = rw (two (passes e) true h .0) (fresh-held (e .settings) (e .threshold) (e .initial) (held .settings) (held .initial))
