@@ -12,7 +12,7 @@ starting-requires-2 c κs = search needs
 
 returns : tie.Need-returns
 unfolding fresh
-returns c = cc
+returns c = rw (c .starting2 .ensures, c .before .starting .ensures)
 
 pub fresh-spec : {M : Type 1} → statement M
 fresh-spec = tie.close (tie.spec starting-requires starting-requires-2 returns)

@@ -9,7 +9,7 @@ clamp-requires c κs = search needs
 
 returns : tie.Need-returns
 unfolding startingLevel
-returns c = cc
+returns c = c .clamp .ensures
 
 pub starting-level-spec : {M : Type 1} → statement M
 starting-level-spec = tie.close (tie.spec clamp-requires returns)

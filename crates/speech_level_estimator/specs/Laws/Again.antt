@@ -1,27 +1,25 @@
 -- Accepted states pass again: the one that `new` makes, and those after a frame and after a reset. And the published level keeps its range. Laws.
 -- Assumes nothing.
-use mathlib.Core.Path.{_≡_, refl, sym, ap, _∙_}
-use mathlib.Core.Bool.{Bool, true, false, _&&_, cond, false≢true}
+use mathlib.Core.Path.{_≡_, refl}
+use mathlib.Core.Bool.{Bool, true, false, _&&_, cond}
 use Prim.Native.Nat.{ℕ, _≤_, zero-le}
 use native.Mathlib.Omega.{arith}
 use lib.Dec.{T, leb, leb→le, le→leb}
-use lib.Ieee.{Float, binary32, fits, eq, ofBits}
+use lib.Ieee.{Float, binary32, fits, eq}
 use lib.Ieee.Fits.{and-i, and-l, and-r}
 use Rattle.floats.specs.Laws.Kinds.{passed as holds}
-use Rattle.rounding.specs.Units.{In, Number}
 use Rattle.units.specs.Figures.{rms, probability}
 use Rattle.units.specs.Ranges.{closed}
 use Rattle.units.specs.Replies.{done, refusal}
 use Rattle.units.specs.Settings.{accepted, threshold}
 use Rattle.units.specs.declared.settings.Settings.{Settings}
 use Rattle.runs.specs.Runs as Runs
-use Rattle.runs.specs.Runs.{Run, speech, longer, keeps, throws, framed, published}
+use Rattle.runs.specs.Runs.{Run, speech, keeps, throws, framed, published}
 use Rattle.runs.specs.Laws.Counts.{longer-most}
 use Rattle.speech_level_estimator.specs.Average as Average
-use Rattle.speech_level_estimator.specs.Estimator.{startingLevel, run, passes, nothing, fresh, updated}
+use Rattle.speech_level_estimator.specs.Estimator.{startingLevel, run, passes, fresh, updated}
 use Rattle.speech_level_estimator.specs.Calls.{made, figures, stepped, restarted, levelTold}
 use Rattle.speech_level_estimator.specs.Held.{Held, HeldSettings, HeldEstimator}
-use Rattle.speech_level_estimator.specs.declared.Average.{Average as State}
 use Rattle.speech_level_estimator.specs.declared.Estimator.{Estimator}
 use Rattle.speech_level_estimator.specs.Laws.Facts.{so, one-value, Passed, passed, passing}
 use Rattle.speech_level_estimator.specs.Laws.Advance.{advanced-passed, passed-held}

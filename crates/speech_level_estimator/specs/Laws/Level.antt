@@ -1,20 +1,19 @@
 -- The level of an average that passes, and the level to start with, lie in their range. Laws.
 -- Assumes nothing.
-use mathlib.Core.Path.{_≡_, refl, sym, ap, _∙_}
+use mathlib.Core.Path.{_≡_, refl, sym, _∙_}
 use mathlib.Core.Logic.{_⊎_, inl, inr}
-use mathlib.Core.Bool.{Bool, true, false, _&&_, not}
-use mathlib.Core.List.{List, [], _∷_}
+use mathlib.Core.Bool.{Bool, true, _&&_, not}
+use mathlib.Core.List.{[], _∷_}
 use Prim.Native.Nat.{ℕ, _+_, _*_, _≤_, _<_}
-use native.Mathlib.Nat.{le-refl, le-trans, le-of-eq, mul-le-mul-right, lt-of-lt-of-le}
+use native.Mathlib.Nat.{le-refl, le-of-eq, mul-le-mul-right, lt-of-lt-of-le}
 use native.Mathlib.Omega.{arith}
-use lib.Dec.{T, eqb, eqb→eq, eqb-refl, lit<, lit≤}
+use lib.Dec.{T, eqb, eqb→eq, eqb-refl, lit<}
 use lib.Ieee.{Float, nan, inf, fin, binary32, fits, isNan, sub, add, neg, div, lt, le, eq, ofBits, size as bits}
 use lib.Ieee.Fits.{and-i, and-l, and-r}
-use lib.Ieee.Scale.{finite}
 use Rattle.rounding.specs.Units.{U, size, P, N, Number, Value, In}
 use Rattle.rounding.specs.Laws.Exact.{constant-number}
 use Rattle.rounding.specs.Laws.Operations.{div-rounds}
-use Rattle.rounding.specs.Laws.Order.{le→units, units→le, eq-units, between, le-box}
+use Rattle.rounding.specs.Laws.Order.{units→le, eq-units, between, le-box}
 use Rattle.rounding.specs.Laws.Whole.{U-pos, sides}
 use Rattle.floats.specs.Choice.{clamp, larger, smaller}
 use Rattle.floats.specs.Kinds.{isNegativeZero}
@@ -29,8 +28,8 @@ use Rattle.speech_level_estimator.specs.Average.{starting, passes, level
 use Rattle.speech_level_estimator.specs.Estimator.{startingLevel}
 use Rattle.speech_level_estimator.specs.Held.{Held, HeldSettings}
 use Rattle.speech_level_estimator.specs.declared.Average.{Average}
-use Rattle.speech_level_estimator.specs.Laws.Facts.{so, one, one-value, Weight, Passed, passed, passing}
-use Rattle.speech_level_estimator.specs.Laws.Near.{Near, near}
+use Rattle.speech_level_estimator.specs.Laws.Facts.{so, one, one-value, Passed, passed, passing}
+use Rattle.speech_level_estimator.specs.Laws.Near.{near}
 
 -- ---- the ends: -90 and 30
 abbrev pub lowest : Float

@@ -1,33 +1,28 @@
 -- The estimator's two states and its count are a run of `runs`, so what holds of every run holds of it: a run of speech frames that is shorter than the
 -- threshold and closed by a frame that is not speech leaves no trace. Laws.
 -- Assumes nothing.
-use mathlib.Core.Path.{_≡_, refl, sym, ap, _∙_}
-use mathlib.Core.Bool.{Bool, true, false, _&&_, cond}
+use mathlib.Core.Path.{_≡_, refl, ap, _∙_}
+use mathlib.Core.Bool.{true, false, _&&_}
 use mathlib.Core.List.{List, [], _∷_}
-use Prim.Native.Nat.{ℕ, suc, _+_, _≤_, _<_}
+use Prim.Native.Nat.{ℕ, suc, _+_, _<_}
 use native.Mathlib.Omega.{arith}
-use lib.Dec.{T}
 use lib.ListN.{length}
-use lib.Ieee.{Float}
-use lib.Ieee.Fits.{and-i}
 use borrow.Author.Tests.{lt-leb}
 use Rattle.lists.specs.Each.{Each}
-use Rattle.floats.specs.Laws.Kinds.{passed as holds}
 use Rattle.units.specs.Replies.{done, refusal}
 use Rattle.units.specs.Settings.{accepted, threshold}
 use Rattle.units.specs.declared.settings.Settings.{Settings}
 use Rattle.runs.specs.Runs as Runs
-use Rattle.runs.specs.Runs.{Run, speech, longer, framed, published}
-use Rattle.runs.specs.Histories.{Frame, after, AllSpeech, Settled}
+use Rattle.runs.specs.Runs.{Run, speech, framed, published}
+use Rattle.runs.specs.Histories.{after, AllSpeech, Settled}
 use Rattle.runs.specs.Laws.Counts.{longer-below}
-use Rattle.runs.specs.Laws.Short.{new-settled, framed-settled, short-run}
+use Rattle.runs.specs.Laws.Short.{framed-settled, short-run}
 use Rattle.speech_level_estimator.specs.Average as Average
 use Rattle.speech_level_estimator.specs.Estimator.{run, passes, fresh, updated}
-use Rattle.speech_level_estimator.specs.Calls.{made, figures, stepped, restarted}
-use Rattle.speech_level_estimator.specs.Histories.{Pair, Accepted, fedOne, fed, frame, frames, Ready, Untouched}
+use Rattle.speech_level_estimator.specs.Calls.{made, stepped, restarted}
+use Rattle.speech_level_estimator.specs.Histories.{Pair, Accepted, fedOne, fed, frames, Ready, Untouched}
 use Rattle.speech_level_estimator.specs.declared.Average.{Average as State}
 use Rattle.speech_level_estimator.specs.declared.Estimator.{Estimator}
-use Rattle.speech_level_estimator.specs.Laws.Facts.{so}
 use Rattle.speech_level_estimator.specs.Laws.Again.{two, stepped-passes, stepped-held}
 
 -- An accepted frame is not refused,

@@ -12,7 +12,7 @@ less-requires c κs = search needs
 
 returns : tie.Need-returns
 unfolding advanced
-returns c = cc
+returns c = rw (c .before .before .less .ensures, c .before .before .before .pick-f32 .ensures)
 
 pub advanced-spec : {M : Type 1} → statement M
 advanced-spec = tie.close (tie.spec pick-f32-requires less-requires returns)

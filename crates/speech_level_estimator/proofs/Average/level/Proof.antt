@@ -9,7 +9,7 @@ clamp-requires c κs = search needs
 
 returns : tie.Need-returns
 unfolding level
-returns c = cc
+returns c = c .clamp .ensures
 
 pub level-spec : {M : Type 1} → statement M
 level-spec = tie.close (tie.spec clamp-requires returns)

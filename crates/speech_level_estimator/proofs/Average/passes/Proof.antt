@@ -20,7 +20,7 @@ f32-to-f64-with-nan-requires-2 c κs = search needs
 
 returns : tie.Need-returns
 returns c =
-    let b = c .before .before .before .before in
+    let b = c .before .before in
     let a = b .before .before .before .before .args .self in
     let f : T (fits binary32 (a .sum)) = search needs in
     let g : T (fits binary32 (a .weight)) = search needs in

@@ -12,7 +12,7 @@ refusal-requires c κs = search needs
 
 returns : tie.Need-returns
 unfolding confidenceTold
-returns c = cc
+returns c = rw (c .before .refusal .ensures, c .before .before .passes .ensures)
 
 pub is-confident-spec : {M : Type 1} → statement M
 is-confident-spec = tie.close (tie.spec passes-requires refusal-requires returns)

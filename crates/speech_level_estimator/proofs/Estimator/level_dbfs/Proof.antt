@@ -15,7 +15,7 @@ pick-f32-requires c κs = search needs
 
 returns : tie.Need-returns
 unfolding levelTold
-returns c = cc
+returns c = rw (c .pick-f32 .ensures, c .before .refusal .ensures, c .before .before .passes .ensures)
 
 pub level-dbfs-spec : {M : Type 1} → statement M
 level-dbfs-spec = tie.close (tie.spec passes-requires refusal-requires pick-f32-requires returns)

@@ -39,7 +39,7 @@ returns-2 : tie.Need-returns-2
 unfolding made nothing
 returns-2 c =
     let b = c .before .before .before .before in
-    rw (b .refusal .ensures, ← b .before .before .accepted .ensures, ← b .before .is-threshold .ensures, c .before .before .before .if1 .left) (cc)
+    rw (b .refusal .ensures, ← b .before .before .accepted .ensures, ← b .before .is-threshold .ensures, c .before .before .before .if1 .left, c .before .before .unset .ensures, c .before .none .ensures, c .none2 .ensures)
 
 pub new-spec : {M : Type 1} → statement M
 new-spec =

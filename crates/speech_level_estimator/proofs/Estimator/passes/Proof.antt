@@ -21,7 +21,9 @@ passes-requires-2 c κs = search needs
 
 returns : tie.Need-returns
 unfolding passes
-returns c = cc
+returns c =
+    let b = c .before .before .before .before .before .before in
+    rw (b .before .before .accepted .ensures, b .before .is-threshold .ensures, b .starting-level .ensures, c .before .passes .ensures, c .passes2 .ensures)
 
 pub passes-spec : {M : Type 1} → statement M
 passes-spec =
