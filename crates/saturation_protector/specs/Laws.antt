@@ -4,3 +4,8 @@ pub mod Oldest
 pub mod Rings
 pub mod Frames
 pub mod Chosen
+pub mod Nan
+pub mod Range
+pub mod Levels
+pub mod Passing
+pub mod Again
