@@ -9,3 +9,5 @@ pub mod Range
 pub mod Levels
 pub mod Passing
 pub mod Again
+pub mod Pushes
+pub mod Joined
