@@ -11,3 +11,5 @@ pub mod Passing
 pub mod Again
 pub mod Pushes
 pub mod Joined
+pub mod Forty
+pub mod Short
