@@ -13,3 +13,4 @@ pub mod Pushes
 pub mod Joined
 pub mod Forty
 pub mod Short
+pub mod Outcome

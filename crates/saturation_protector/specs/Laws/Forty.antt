@@ -1,6 +1,6 @@
 -- Document 01's example of the peaks, of the protector: of a new one and of one that was reset. Laws.
 -- Assumes nothing.
-use mathlib.Core.Path.{_≡_, refl, ap, _∙_}
+use mathlib.Core.Path.{_≡_, refl, _∙_}
 use mathlib.Core.Bool.{Bool, true, false, _&&_, cond, false≢true}
 use mathlib.Core.List.{List, [], _∷_}
 use Prim.Native.Nat.{ℕ, _≤_}
@@ -12,10 +12,9 @@ use Rattle.lists.specs.Each.{Each}
 use Rattle.units.specs.Figures.{headroom}
 use Rattle.units.specs.Settings.{threshold}
 use Rattle.units.specs.Replies.{done}
-use Rattle.saturation_protector_buffer.specs.Rings as Rings
 use Rattle.saturation_protector_buffer.specs.Ring as Ring
 use Rattle.saturation_protector_buffer.specs.History.{emptyOf}
-use Rattle.saturation_protector_buffer.specs.Laws.Pushes.{Sound, push-items, last-short}
+use Rattle.saturation_protector_buffer.specs.Laws.Pushes.{push-items, last-short}
 use Rattle.saturation_protector_buffer.specs.Laws.History.{SoundRing, new-sound, reset-sound}
 use Rattle.saturation_protector_buffer.specs.Laws.Tests.{done-both}
 use Rattle.saturation_protector_buffer.specs.declared.Ring.{Ring as Stored}

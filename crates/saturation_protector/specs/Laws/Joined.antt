@@ -1,9 +1,9 @@
 -- The two states and the count go by the rule of `runs`: of one frame, and of any number of accepted frames. Laws.
 -- Assumes nothing.
 use mathlib.Core.Path.{_≡_, refl, sym, ap, _∙_}
-use mathlib.Core.Bool.{Bool, true, false, _&&_, cond}
+use mathlib.Core.Bool.{Bool, true, false, _&&_}
 use mathlib.Core.List.{List, [], _∷_, _++_}
-use Prim.Native.Nat.{ℕ, _+_, _≤_, _<_}
+use Prim.Native.Nat.{ℕ, _≤_}
 use native.Mathlib.Omega.{arith}
 use lib.Dec.{ltb}
 use lib.ListN.{length}
@@ -19,7 +19,7 @@ use Rattle.saturation_protector_buffer.specs.Laws.Tests.{both}
 use Rattle.saturation_protector.specs.Peaks as Peaks
 use Rattle.saturation_protector.specs.Protector.{run, passes, analyzed}
 use Rattle.saturation_protector.specs.Calls.{figures, stepped}
-use Rattle.saturation_protector.specs.History.{Figures, InRange, Speech, heard, frame, frames}
+use Rattle.saturation_protector.specs.History.{Figures, InRange, Speech, heard, frames}
 use Rattle.saturation_protector.specs.declared.Peaks.{Peaks as State}
 use Rattle.saturation_protector.specs.declared.Protector.{Protector}
 use Rattle.saturation_protector.specs.Laws.Tests.{passed-whole}

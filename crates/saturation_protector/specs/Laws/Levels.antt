@@ -5,7 +5,7 @@ use mathlib.Core.Bool.{Bool, true, false, cond}
 use mathlib.Core.List.{List, [], _∷_, _++_}
 use Prim.Native.Nat.{ℕ, zero, suc}
 use lib.ListN.{set, take, drop}
-use lib.Ieee.{Float, binary32, ofBits, le, lt, eq}
+use lib.Ieee.{Float, ofBits, le, lt, eq}
 use Rattle.lists.specs.Each.{Each, each-take, each-drop, each-append}
 use Rattle.units.specs.Figures.{level}
 use Rattle.saturation_protector_buffer.specs.Rings as Rings

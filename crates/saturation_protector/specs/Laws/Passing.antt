@@ -2,9 +2,9 @@
 -- Assumes nothing.
 use mathlib.Core.Path.{_≡_, refl, sym, ap, _∙_}
 use mathlib.Core.Bool.{Bool, true, false, cond}
-use Prim.Native.Nat.{ℕ, _+_, _%_, _≤_}
+use Prim.Native.Nat.{_+_, _%_}
 use native.Mathlib.Omega.{arith}
-use lib.Dec.{ltb, leb, eqb}
+use lib.Dec.{ltb}
 use lib.Ieee.{Float, binary32, sub}
 use borrow.Author.Tests.{ltb-false, le-leb, eq-eqb}
 use Rattle.rounding.specs.Units.{In}
@@ -15,9 +15,9 @@ use Rattle.saturation_protector_buffer.specs.Ring as Ring
 use Rattle.saturation_protector_buffer.specs.Laws.Passing as Rings
 use Rattle.saturation_protector_buffer.specs.Laws.Tests.{each}
 use Rattle.saturation_protector_buffer.specs.declared.Ring.{Ring as Stored}
-use Rattle.saturation_protector.specs.Peaks.{lowest, longest, frameTime, least, most, time, allLevels, oldestOr, nearer, starting, restarted, passes, advanced}
+use Rattle.saturation_protector.specs.Peaks.{lowest, longest, frameTime, least, most, time, allLevels, oldestOr, starting, restarted, passes, advanced}
 use Rattle.saturation_protector.specs.declared.Peaks.{Peaks}
-use Rattle.saturation_protector.specs.Laws.Tests.{Passed, passed, passing, level-finite, larger-level, time-most, time-tens}
+use Rattle.saturation_protector.specs.Laws.Tests.{passed, passing, level-finite, larger-level, time-tens}
 use Rattle.saturation_protector.specs.Laws.Rings.{either-passes, pushed-ring}
 use Rattle.saturation_protector.specs.Laws.Levels.{levels-set, empty-levels, lowest-level, items-levels, oldest-level, either-level}
 use Rattle.saturation_protector.specs.Laws.Nan.{sub-real, finite-real}

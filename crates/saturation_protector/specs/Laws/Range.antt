@@ -2,27 +2,25 @@
 -- Assumes nothing.
 use mathlib.Core.Path.{_≡_, refl, sym, ap, _∙_, subst}
 use mathlib.Core.Bool.{Bool, true, false, _&&_, _||_, cond, false≢true}
-use Prim.Native.Nat.{ℕ, suc, _+_, _*_, _^_, _≤_, _<_}
-use native.Mathlib.Nat.{le-trans, le-of-eq, lt-of-le-of-lt, mul-assoc, mul-comm, mul-one, mul-le-mul-left, mul-le-mul-right, mul-pos, mul-mul-mul-comm}
+use Prim.Native.Nat.{ℕ, suc, _*_, _^_, _≤_, _<_}
+use native.Mathlib.Nat.{le-trans, le-of-eq, lt-of-le-of-lt, mul-assoc, mul-comm, mul-one, mul-le-mul-left, mul-le-mul-right, mul-pos}
 use native.Mathlib.Omega.{arith}
 use lib.IntN.{ℤ, negsuc}
-use lib.Dec.{T, ltb, eqb, lit<, lit≤, ltb→lt}
-use lib.Ieee.{Float, nan, inf, fin, binary32, up, down, unlike, ofBits, add, sub, mul, neg, le, lt, eq, fits, round, size as bits}
+use lib.Dec.{T, ltb, eqb, lit<, lit≤}
+use lib.Ieee.{Float, nan, inf, fin, binary32, up, down, unlike, ofBits, add, sub, mul, neg, le, lt, eq, round, size as bits}
 use lib.Ieee.Fits.{down-pos, add-fits}
 use lib.Ieee.Scale.{finite}
 use borrow.Author.Tests.{ltb-true, eqb-true}
-use Rattle.rounding.specs.Units.{U, limit, P, N, Number, In, rnd}
+use Rattle.rounding.specs.Units.{U, limit, In, rnd}
 use Rattle.rounding.specs.Laws.Rnd.{rnd-mono, rnd-exact}
-use Rattle.rounding.specs.Laws.Whole.{U-pos}
 use Rattle.rounding.specs.Laws.Exact.{constant-number}
 use Rattle.rounding.specs.Laws.Operations.{rounded}
 use Rattle.rounding.specs.Laws.Order.{le→units, units→le, lt→units, units→lt}
-use Rattle.floats.specs.Laws.Kinds.{passed as so}
-use Rattle.intervals.specs.Laws.Choice.{Leq, clamp-in}
+use Rattle.intervals.specs.Laws.Choice.{clamp-in}
 use Rattle.units.specs.Figures.{headroom}
 use Rattle.saturation_protector_buffer.specs.Laws.Tests.{both, each}
 use Rattle.saturation_protector.specs.Peaks.{attack, decay, least, most, stays, nearer}
-use Rattle.saturation_protector.specs.Laws.Nan.{Real, round-real, add-real, mul-real}
+use Rattle.saturation_protector.specs.Laws.Nan.{Real, add-real, mul-real}
 
 -- ---- at most 100 times at most 1 is a number
 hundred-units : rnd (100 * U) 1 < limit

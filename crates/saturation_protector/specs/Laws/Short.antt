@@ -11,7 +11,7 @@ use borrow.Author.Tests.{lt-leb}
 use Rattle.lists.specs.Each.{Each, each-append}
 use Rattle.units.specs.Figures.{headroom}
 use Rattle.units.specs.Settings.{threshold}
-use Rattle.runs.specs.Runs.{speech, longer, Run, advanced, closed, framed, published}
+use Rattle.runs.specs.Runs.{speech, Run, advanced, closed, framed, published}
 use Rattle.runs.specs.Histories.{after, advancedBy, Settled}
 use Rattle.runs.specs.Laws.Counts.{longer-below}
 use Rattle.runs.specs.Laws.Short.{short-run, long-run, framed-settled}
@@ -21,7 +21,6 @@ use Rattle.saturation_protector.specs.Calls.{made, reset}
 use Rattle.saturation_protector.specs.History.{Figures, InRange, Speech, Other, heard, frames}
 use Rattle.saturation_protector.specs.declared.Peaks.{Peaks as State}
 use Rattle.saturation_protector.specs.declared.Protector.{Protector}
-use Rattle.saturation_protector.specs.Laws.Tests.{passed-whole}
 use Rattle.saturation_protector.specs.Laws.Again.{stepped-analyzed}
 use Rattle.saturation_protector.specs.Laws.Joined.{analyzed-run, one-kept, heard-next, heard-append, heard-kept, heard-run, all-speech, frames-length}
 
@@ -89,14 +88,14 @@ module _ (s : Protector) (fs : List Figures) (f : Figures) (state : passes s ≡
       ap (λ (r : Protector). r .headroom) ran ∙ other-unpublished (heard s fs) f other ∙ short-unpublished s fs state ranges speech (omega arith) in
       let kept = heard-kept s (fs ++ (f ∷ [])) state all in
       λ i.
-          record {
-            initial = kept .initial i;
-            threshold = kept .threshold i;
-            count = back i .count;
-            headroom = published i;
-            preliminary = back i .preliminary;
-            reliable = back i .reliable;
-          }
+      record {
+        initial = kept .initial i;
+        threshold = kept .threshold i;
+        count = back i .count;
+        headroom = published i;
+        preliminary = back i .preliminary;
+        reliable = back i .reliable;
+      }
 
   -- A run that reached the threshold is kept: both states are the preliminary one, advanced by each of its frames.
   pub long-run-kept : 1 < s .threshold → s .count ≡ 0 → s .threshold ≤ length fs
