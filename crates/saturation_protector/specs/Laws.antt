@@ -4,3 +4,13 @@ pub mod Oldest
 pub mod Rings
 pub mod Frames
 pub mod Chosen
+pub mod Nan
+pub mod Range
+pub mod Levels
+pub mod Passing
+pub mod Again
+pub mod Pushes
+pub mod Joined
+pub mod Forty
+pub mod Short
+pub mod Outcome

@@ -2,4 +2,5 @@
 pub mod Peaks
 pub mod Protector
 pub mod Calls
+pub mod History
 pub mod Laws

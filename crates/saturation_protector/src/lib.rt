@@ -237,6 +237,14 @@ impl Protector {
             & reliable.passes()
     }
 
+    // A refusal: the reply's number, and the protector as it came in.
+    fn unchanged(self, reply: u32) -> Next
+        ensures { λ r. ⌜ r ≡ record { reply = reply; protector = self } ⌝ }
+    {
+        let protector = self;
+        Next { reply, protector }
+    }
+
     // Takes a frame's probability and peak, and the level of the speech. A speech frame advances the
     // preliminary state, and from the threshold on its headroom is published; any other frame keeps the
     // run or throws it away. Refused with 4 or 2, and then nothing changes.
@@ -252,10 +260,7 @@ impl Protector {
             let protector = self.analyzed(probability, peak.0, level.0);
             Next { reply, protector }
         } else {
-            Next {
-                reply,
-                protector: self,
-            }
+            self.unchanged(reply)
         }
     }
 
@@ -308,10 +313,7 @@ impl Protector {
                 },
             }
         } else {
-            Next {
-                reply,
-                protector: self,
-            }
+            self.unchanged(reply)
         }
     }
 

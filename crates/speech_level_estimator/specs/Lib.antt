@@ -3,4 +3,5 @@ pub mod Average
 pub mod Estimator
 pub mod Calls
 pub mod Held
+pub mod Histories
 pub mod Laws

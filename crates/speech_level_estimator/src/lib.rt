@@ -110,12 +110,13 @@ impl Average {
     fn passes(self) -> bool
         ensures { λ r. ⌜ r ≡ passes self ⌝ }
     {
+        let weight = self.weight;
         let most = std::num::nearest_u32_to_f32(less(450, self.left));
         // In f64 neither the product nor the sum is rounded.
         let sum = std::num::f32_to_f64_with_nan(self.sum);
-        let bound = 151.0 * std::num::f32_to_f64_with_nan(self.weight);
+        let bound = 151.0 * std::num::f32_to_f64_with_nan(weight);
         ((self.left <= CONFIDENT) & (self.left % FRAME == 0))
-            & ((1.0 <= self.weight) & (self.weight <= most))
+            & ((1.0 <= weight) & (weight <= most))
             & ((sum <= bound) & (-bound <= sum))
     }
 

@@ -3,11 +3,10 @@
 use mathlib.Core.Path.{_≡_, refl, sym, _∙_}
 use mathlib.Core.Bool.{Bool, true, false, _&&_, cond, false≢true}
 use Prim.Native.Nat.{_≤_, _%_}
-use native.Mathlib.Omega.{arith}
 use lib.Dec.{leb, eqb}
-use lib.Ieee.{Float, nan, inf, fin, binary32, ofBits, le, lt, eq}
+use lib.Ieee.{Float, nan, inf, fin, ofBits, le, lt, eq}
 use lib.Ieee.Scale.{finite}
-use borrow.Author.Tests.{leb-true, eqb-true, le-leb, eq-eqb}
+use borrow.Author.Tests.{leb-true, eqb-true, le-leb}
 use Rattle.units.specs.Figures.{level, headroom}
 use Rattle.units.specs.Settings.{threshold}
 use Rattle.floats.specs.Choice.{larger}

@@ -1,18 +1,13 @@
+-- `speech_level_estimator::is_trusted` meets its contract: one choice. Assumes nothing.
 use borrow.Author.Tests.{ne-eqb}
 use Rattle.speech_level_estimator.specs.Estimator.{trusted}
-use borrow.Author.Needs.{needs}
-use native.Mathlib.Omega.{arith}
 use Rattle.speech_level_estimator.proofs.is_trusted.Statement.{statement}
 use Rattle.speech_level_estimator.proofs.is_trusted.Tie as tie
-use Rattle.speech_level_estimator.proofs.is_trusted.Reads as reads
-use Rattle.speech_level_estimator.proofs.is_trusted.Lts as lts
 
--- src/lib.rt:157:1
 returns : tie.Need-returns
 unfolding trusted
 returns c = rw (c .if1 .taken)
 
--- src/lib.rt:157:1
 returns-2 : tie.Need-returns-2
 unfolding trusted
 returns-2 c = rw (ne-eqb _ _ (c .if1 .left))

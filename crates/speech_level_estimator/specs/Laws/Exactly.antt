@@ -1,19 +1,19 @@
 -- 151 times an f32 is exact in f64, so the code's test of a sum in f64 is the definition's in whole units. Laws.
 -- Assumes nothing.
 use mathlib.Core.Path.{_≡_, refl, sym, ap, _∙_, subst}
-use mathlib.Core.Bool.{Bool, true, false, _&&_, _||_, not, cond, true≢false}
-use Prim.Native.Nat.{ℕ, zero, suc, _+_, _*_, _^_, _≤_, _<_}
-use native.Mathlib.Nat.{lt-irrefl, le-trans, le-of-eq, le-of-lt, le-antisymm, lt-of-lt-of-le, mul-assoc, mul-comm, mul-left-comm, mul-one, one-mul, mul-pos, mul-le-mul-left, mul-le-mul-right, mul-lt-mul-of-pos-right, le-of-mul-le-mul-right, eq-of-mul-eq-mul-right}
+use mathlib.Core.Bool.{Bool, true, false, _&&_, _||_, not, true≢false}
+use Prim.Native.Nat.{ℕ, _+_, _*_, _^_, _≤_, _<_}
+use native.Mathlib.Nat.{lt-irrefl, le-of-eq, le-of-lt, le-antisymm, lt-of-lt-of-le, mul-le-mul-right, mul-lt-mul-of-pos-right, le-of-mul-le-mul-right, eq-of-mul-eq-mul-right}
 use native.Mathlib.Omega.{arith}
-use lib.IntN.{ℤ, pos}
-use lib.Dec.{T, ltb, leb, eqb, leb→le, le→leb, ltb→lt, lt→ltb, eqb→eq, nltb→le, lit<, lit≤}
+use lib.IntN.{pos}
+use lib.Dec.{T, ltb, leb, eqb, leb→le, le→leb, ltb→lt, eqb→eq, nltb→le, lit≤}
 use lib.Pow.{pow-add, pow-pos}
 use lib.Ieee.{Float, nan, inf, fin, binary32, binary64, up, down, fits, mul, neg, round, lt, eq, le, ofBits}
 use lib.Ieee.Exact.{HasValue, round-exact}
 use lib.Ieee.Fits.{down-pos, eq→eqb}
-use lib.Ieee.Order.{transfer, le-of-values}
+use lib.Ieee.Order.{transfer}
 use lib.Ieee.Scale.{finite}
-use Rattle.rounding.specs.Units.{U, limit, size, P, N, Number}
+use Rattle.rounding.specs.Units.{U, limit, size, P, Number}
 use Rattle.rounding.specs.Laws.Order.{same-test}
 use Rattle.rounding.specs.Laws.Whole.{U-pos, whole, digits-of, size-limit}
 use Rattle.speech_level_estimator.specs.Average.{sums}

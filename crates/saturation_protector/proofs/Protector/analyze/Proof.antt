@@ -30,6 +30,9 @@ analyzed-requires c κs =
     let peak = both (tests .before .before .is-probability .result) (tests .before .is-level .result) (two .0) in
     (sym (p .ensures) ∙ three .0, sym (tests .before .is-level .ensures) ∙ peak .1)
 
+unchanged-requires : tie.Need-unchanged-requires
+unchanged-requires c κs = search needs
+
 returns : tie.Need-returns
 unfolding stepped
 returns c =
@@ -47,14 +50,15 @@ returns c =
 returns-2 : tie.Need-returns-2
 unfolding stepped
 returns-2 c =
-    let tests = c .before .before in
+    let tests = c .before .before .before in
     rw (
-      c .before .refusal .ensures,
+      c .unchanged .ensures,
+      c .before .before .refusal .ensures,
       ← tests .before .before .before .passes .ensures,
       ← tests .before .before .is-probability .ensures,
       ← tests .before .is-level .ensures,
       ← tests .is-level2 .ensures,
-      c .if1 .left,
+      c .before .if1 .left,
     )
 
 pub analyze-spec : {M : Type 1} → statement M
@@ -67,5 +71,6 @@ analyze-spec =
     is-level-requires-2
     refusal-requires
     analyzed-requires
+    unchanged-requires
     returns
     returns-2)

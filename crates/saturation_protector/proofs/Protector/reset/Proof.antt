@@ -25,6 +25,9 @@ restarted-requires-2 c κs =
     let s = c .before .before .before .before .before .before .args .self in
     passed (s .reliable) (passed-whole s (sym (p .ensures) ∙ c .before .before .before .if1 .taken) .reliable) .ring
 
+unchanged-requires : tie.Need-unchanged-requires
+unchanged-requires c κs = search needs
+
 returns : tie.Need-returns
 unfolding reset again
 returns c =
@@ -34,8 +37,8 @@ returns c =
 returns-2 : tie.Need-returns-2
 unfolding reset
 returns-2 c =
-    let tests = c .before in
-    rw (tests .refusal .ensures, ← tests .before .passes .ensures, c .if1 .left)
+    let tests = c .before .before in
+    rw (c .unchanged .ensures, tests .refusal .ensures, ← tests .before .passes .ensures, c .before .if1 .left)
 
 pub reset-spec : {M : Type 1} → statement M
 reset-spec =
@@ -45,5 +48,6 @@ reset-spec =
     refusal-requires
     restarted-requires
     restarted-requires-2
+    unchanged-requires
     returns
     returns-2)

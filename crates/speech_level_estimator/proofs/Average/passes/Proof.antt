@@ -1,36 +1,26 @@
+-- `speech_level_estimator::Average::passes` meets its contract: 151 times the weight and the sum are exact in f64, so its last test is that of whole units. Where the weight is out of range both answers are false. Assumes nothing.
 use lib.Dec.{T}
 use lib.Ieee.{binary32, fits}
-use Rattle.speech_level_estimator.specs.Laws.Facts.{passes-exact}
 use borrow.Author.Needs.{needs}
-use native.Mathlib.Omega.{arith}
+use Rattle.speech_level_estimator.specs.Laws.Facts.{passes-exact}
 use Rattle.speech_level_estimator.proofs.Average.passes.Statement.{statement}
 use Rattle.speech_level_estimator.proofs.Average.passes.Tie as tie
-use Rattle.speech_level_estimator.proofs.Average.passes.Reads as reads
-use Rattle.speech_level_estimator.proofs.Average.passes.Lts as lts
-use Rattle.speech_level_estimator.proofs.less.Reads as less-reads
-use Rattle.std.proofs.num.f32_to_f64_with_nan.Reads as f32-to-f64-with-nan-reads
-use Rattle.std.proofs.num.nearest_u32_to_f32.Reads as nearest-u32-to-f32-reads
 
--- src/lib.rt:113:49
 less-requires : tie.Need-less-requires
 less-requires c κs = search needs
 
--- src/lib.rt:113:13
 nearest-u32-to-f32-requires : tie.Need-nearest-u32-to-f32-requires
 nearest-u32-to-f32-requires c κs = search needs
 
--- src/lib.rt:115:13
 f32-to-f64-with-nan-requires : tie.Need-f32-to-f64-with-nan-requires
 f32-to-f64-with-nan-requires c κs = search needs
 
--- src/lib.rt:116:29
 f32-to-f64-with-nan-requires-2 : tie.Need-f32-to-f64-with-nan-requires-2
 f32-to-f64-with-nan-requires-2 c κs = search needs
 
--- src/lib.rt:110:5
 returns : tie.Need-returns
 returns c =
-    let b = c .before .before .before .before in
+    let b = c .before .before in
     let a = b .before .before .before .before .args .self in
     let f : T (fits binary32 (a .sum)) = search needs in
     let g : T (fits binary32 (a .weight)) = search needs in

@@ -1,60 +1,42 @@
-use Rattle.runs.specs.Laws.Counts.{turned-framed}
-use Rattle.runs.specs.Runs.{speech, turned}
-use Rattle.speech_level_estimator.specs.Average.{advanced, level}
-use Rattle.speech_level_estimator.specs.Estimator.{run, trusted, updated}
-use Rattle.speech_level_estimator.specs.declared.Average.{Average as State}
-use Rattle.speech_level_estimator.specs.declared.Estimator.{Estimator}
-use Rattle.runs.specs.declared.Turn.{Turn}
+-- `speech_level_estimator::Estimator::updated` meets its contract: the parts that the code works out are those of the run (`turned-framed`). Assumes nothing.
 use mathlib.Core.Path.{_≡_, refl}
 use mathlib.Core.Bool.{Bool, cond}
 use lib.Ieee.{Float}
 use borrow.Author.Needs.{needs}
-use native.Mathlib.Omega.{arith}
+use Rattle.runs.specs.Laws.Counts.{turned-framed}
+use Rattle.runs.specs.Runs.{speech, turned}
+use Rattle.runs.specs.declared.Turn.{Turn}
+use Rattle.speech_level_estimator.specs.Average.{advanced, level}
+use Rattle.speech_level_estimator.specs.Estimator.{run, trusted, updated}
+use Rattle.speech_level_estimator.specs.declared.Average.{Average as State}
+use Rattle.speech_level_estimator.specs.declared.Estimator.{Estimator}
 use Rattle.speech_level_estimator.proofs.Estimator.updated.Statement.{statement}
 use Rattle.speech_level_estimator.proofs.Estimator.updated.Tie as tie
-use Rattle.speech_level_estimator.proofs.Estimator.updated.Reads as reads
-use Rattle.speech_level_estimator.proofs.Estimator.updated.Lts as lts
-use Rattle.floats.proofs.pick_f32.Reads as pick-f32-reads
-use Rattle.runs.proofs.is_speech.Reads as is-speech-reads
-use Rattle.runs.proofs.step.Reads as step-reads
-use Rattle.speech_level_estimator.proofs.Average.advanced.Reads as advanced-reads
-use Rattle.speech_level_estimator.proofs.Average.level.Reads as level-reads
-use Rattle.speech_level_estimator.proofs.is_trusted.Reads as is-trusted-reads
-use Rattle.speech_level_estimator.proofs.pick_average.Reads as pick-average-reads
 
--- src/lib.rt:260:13
 is-speech-requires : tie.Need-is-speech-requires
 is-speech-requires c κs = search needs
 
--- src/lib.rt:261:13
 step-requires : tie.Need-step-requires
 step-requires c κs = search needs
 
--- src/lib.rt:262:13
 advanced-requires : tie.Need-advanced-requires
 advanced-requires c κs = search needs
 
--- src/lib.rt:263:13
 pick-average-requires : tie.Need-pick-average-requires
 pick-average-requires c κs = search needs
 
--- src/lib.rt:264:13
 pick-average-requires-2 : tie.Need-pick-average-requires-2
 pick-average-requires-2 c κs = search needs
 
--- src/lib.rt:265:13
 pick-average-requires-3 : tie.Need-pick-average-requires-3
 pick-average-requires-3 c κs = search needs
 
--- src/lib.rt:266:52
 level-requires : tie.Need-level-requires
 level-requires c κs = search needs
 
--- src/lib.rt:266:13
 pick-f32-requires : tie.Need-pick-f32-requires
 pick-f32-requires c κs = search needs
 
--- src/lib.rt:267:13
 is-trusted-requires : tie.Need-is-trusted-requires
 is-trusted-requires c κs = search needs
 

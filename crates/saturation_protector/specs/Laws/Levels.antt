@@ -1,0 +1,64 @@
+-- Lists of levels: what is stored in the ring of a state that passes, and so its items. Laws.
+-- Assumes nothing.
+use mathlib.Core.Path.{_≡_, refl}
+use mathlib.Core.Bool.{Bool, true, false, cond}
+use mathlib.Core.List.{List, [], _∷_, _++_}
+use Prim.Native.Nat.{ℕ, zero, suc}
+use lib.ListN.{set, take, drop}
+use lib.Ieee.{Float, ofBits, le, lt, eq}
+use Rattle.lists.specs.Each.{Each, each-take, each-drop, each-append}
+use Rattle.units.specs.Figures.{level}
+use Rattle.saturation_protector_buffer.specs.Rings as Rings
+use Rattle.saturation_protector_buffer.specs.Ring.{capacity, empty, items}
+use Rattle.saturation_protector_buffer.specs.Laws.Tests.{both, each}
+use Rattle.saturation_protector_buffer.specs.declared.Ring.{Ring}
+use Rattle.saturation_protector.specs.Peaks.{allLevels, lowest, oldestOr}
+
+-- x is a level
+abbrev pub Level : Float → Type 0
+Level x = level x ≡ true
+
+-- Where all are levels, each is.
+pub levels-each : (xs : List Float) → allLevels xs ≡ true → Each Level xs
+unfolding allLevels Each
+levels-each [] h = tt
+levels-each (x ∷ xs) h = let two = both (level x) (allLevels xs) h in (two .0, levels-each xs (two .1))
+
+-- A level stored anywhere leaves all levels.
+pub levels-set : (xs : List Float) (i : ℕ) (v : Float) → allLevels xs ≡ true → level v ≡ true → allLevels (set xs i v) ≡ true
+unfolding allLevels
+levels-set [] i v h k = refl
+levels-set (x ∷ xs) zero v h k = each k (both (level x) (allLevels xs) h .1)
+levels-set (x ∷ xs) (suc i) v h k =
+    let two = both (level x) (allLevels xs) h in
+    each (two .0) (levels-set xs i v (two .1) k)
+
+-- The storage of a new ring is all levels.
+pub empty-levels : allLevels (empty .stored) ≡ true
+unfolding allLevels empty le lt eq ofBits
+empty-levels = refl
+
+-- The lowest level is one.
+pub lowest-level : level lowest ≡ true
+unfolding le lt eq ofBits
+lowest-level = refl
+
+-- The items of a ring whose storage is all levels are levels.
+pub items-levels : (r : Ring) → allLevels (r .stored) ≡ true → Each Level (items r)
+unfolding items Rings.items
+items-levels r h =
+    let all = levels-each (r .stored) h in
+    let i = Rings.start capacity (r .place) (r .size) in
+    each-take Level (r .size) (drop i (r .stored) ++ take i (r .stored))
+    (each-append Level (drop i (r .stored)) (take i (r .stored)) (each-drop Level i (r .stored) all) (each-take Level i (r .stored) all))
+
+-- The oldest of levels, or another one, is a level.
+pub oldest-level : (xs : List Float) (other : Float) → Each Level xs → level other ≡ true → level (oldestOr xs other) ≡ true
+unfolding oldestOr Each
+oldest-level [] other h k = k
+oldest-level (x ∷ xs) other h k = h .0
+
+-- Whichever of two levels is chosen is one.
+pub either-level : (b : Bool) (x y : Float) → level x ≡ true → level y ≡ true → level (cond b x y) ≡ true
+either-level true x y h k = h
+either-level false x y h k = k
