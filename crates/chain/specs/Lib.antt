@@ -2,3 +2,4 @@
 pub mod Chain
 pub mod Answer
 pub mod Calls
+pub mod Held
