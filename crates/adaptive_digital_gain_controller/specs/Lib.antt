@@ -3,3 +3,5 @@ pub mod Target
 pub mod Change
 pub mod Controller
 pub mod Calls
+pub mod Range
+pub mod Laws

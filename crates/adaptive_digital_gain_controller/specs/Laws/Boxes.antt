@@ -1,0 +1,121 @@
+-- In which box each setting, each figure and each field of a state lies, where its test passed.
+use mathlib.Core.Path.{_≡_, refl, sym, ap, _∙_, subst}
+use mathlib.Core.Bool.{Bool, true, false, _&&_, _||_, not}
+use Prim.Native.Nat.{ℕ}
+use lib.Dec.{T, leb, eqb}
+use lib.Ieee.{Float, nan, inf, fin, binary32, ofBits, le, lt, eq, fits}
+use lib.Ieee.Scale.{finite}
+use borrow.Author.Tests.{leb-true}
+use Rattle.rounding.specs.Units.{P, N, Number, In}
+use Rattle.rounding.specs.Laws.Order.{between, le-box}
+use Rattle.rounding.specs.Laws.Exact.{constant-number}
+use Rattle.floats.specs.Kinds.{isNegativeZero}
+use Rattle.floats.specs.Laws.Kinds.{passed}
+use Rattle.frames.specs.Facts.{and-first, and-second}
+use Rattle.intervals.specs.Interval.{Box, Boxed}
+use Rattle.units.specs.Ranges.{closed, above}
+use Rattle.units.specs.Figures as Figures
+use Rattle.units.specs.Settings as Settings
+use Rattle.units.specs.declared.settings.Settings.{Settings as Set}
+use Rattle.adaptive_digital_gain_controller.specs.Controller.{accepted}
+use Rattle.adaptive_digital_gain_controller.specs.Range.{HeldSettings, HeldInfo}
+use Rattle.adaptive_digital_gain_controller.specs.declared.Info.{Info}
+
+-- a test that passed is true
+pub is-true : (b : Bool) → T b → b ≡ true
+is-true true t = refl
+is-true false t = absurd t
+
+-- what is below is at or below
+lt-le : (x y : Float) → T (lt x y) → T (le x y)
+unfolding le
+lt-le x y t = or-left (lt x y) (eq x y) t
+  where
+    or-left : (a b : Bool) → T a → T (a || b)
+    or-left true b t = tt
+    or-left false b t = absurd t
+
+-- the box between two constants
+abbrev pub from-to : ℕ → ℕ → Box
+from-to a b = record { low = ofBits binary32 a; high = ofBits binary32 b }
+
+module _ (a b : ℕ) (l : T (finite (ofBits binary32 a))) (h : T (finite (ofBits binary32 b))) (x : Float) where
+  -- What lies between two constants lies in their box.
+  pub boxed : In (ofBits binary32 a) (ofBits binary32 b) x → Boxed (from-to a b) x
+  boxed i = record { low-number = constant-number a l; high-number = constant-number b h; inside = i }
+
+  -- A figure from one constant to another lies in their box.
+  pub closed-box : T (fits binary32 x) → closed (ofBits binary32 a) x (ofBits binary32 b) ≡ true → Boxed (from-to a b) x
+  closed-box t c =
+      let low = ofBits binary32 a in
+      let high = ofBits binary32 b in
+      let p = passed (and-first (le low x) (le x high) c) in
+      let q = passed (and-second (le low x) (le x high) c) in
+      boxed (le-box low high x (constant-number a l) (constant-number b h) (between low high x (constant-number a l) (constant-number b h) t p q) p q)
+
+  -- So does one above the first.
+  pub above-box : T (fits binary32 x) → above (ofBits binary32 a) x (ofBits binary32 b) ≡ true → Boxed (from-to a b) x
+  above-box t c =
+      let low = ofBits binary32 a in
+      let high = ofBits binary32 b in
+      let p = lt-le low x (passed (and-first (lt low x) (le x high) c)) in
+      let q = passed (and-second (lt low x) (le x high) c) in
+      boxed (le-box low high x (constant-number a l) (constant-number b h) (between low high x (constant-number a l) (constant-number b h) t p q) p q)
+
+  -- And so does a setting.
+  pub setting-box : T (fits binary32 x) → Settings.setting (ofBits binary32 a) x (ofBits binary32 b) ≡ true → Boxed (from-to a b) x
+  setting-box t c = closed-box t (and-first (closed (ofBits binary32 a) x (ofBits binary32 b)) (not (isNegativeZero x)) c)
+
+-- where the settings lie
+pub record InSettings (s : Set) : Type 0 where
+  pub headroom : Boxed (from-to 0x0000_0000 0x4248_0000) (s .headroom .0)
+  pub largest : Boxed (from-to 0x0000_0000 0x4248_0000) (s .largest .0)
+  pub initial : Boxed (from-to 0x0000_0000 0x4248_0000) (s .initial .0)
+  pub change : Boxed (from-to 0x3c23_d70a 0x42c8_0000) (s .change)
+  pub noise : Boxed (from-to 0xc2b4_0000 0x0000_0000) (s .noise .0)
+
+-- Settings that are accepted lie in their ranges.
+pub in-settings : (s : Set) → HeldSettings s → Settings.accepted s ≡ true → InSettings s
+unfolding Settings.accepted ofBits
+in-settings s t h =
+    let a = Settings.setting (ofBits binary32 0x0000_0000) (s .headroom .0) (ofBits binary32 0x4248_0000) in
+    let b = above (ofBits binary32 0x0000_0000) (s .largest .0) (ofBits binary32 0x4248_0000) in
+    let c = Settings.setting (ofBits binary32 0x0000_0000) (s .initial .0) (ofBits binary32 0x4248_0000) in
+    let d = Settings.setting (ofBits binary32 0x3c23_d70a) (s .change) (ofBits binary32 0x42c8_0000) in
+    let e = Settings.setting (ofBits binary32 0xc2b4_0000) (s .noise .0) (ofBits binary32 0x0000_0000) in
+    let four = and-first (a && b && c && d) e h in
+    let three = and-first (a && b && c) d four in
+    let two = and-first (a && b) c three in
+    record {
+      headroom = setting-box 0x0000_0000 0x4248_0000 tt tt (s .headroom .0) (t .headroom) (and-first a b two);
+      largest = above-box 0x0000_0000 0x4248_0000 tt tt (s .largest .0) (t .largest) (and-second a b two);
+      initial = setting-box 0x0000_0000 0x4248_0000 tt tt (s .initial .0) (t .initial) (and-second (a && b) c three);
+      change = setting-box 0x3c23_d70a 0x42c8_0000 tt tt (s .change) (t .change) (and-second (a && b && c) d four);
+      noise = setting-box 0xc2b4_0000 0x0000_0000 tt tt (s .noise .0) (t .noise) (and-second (a && b && c && d) e h);
+    }
+
+-- where the figures lie
+pub record InFigures (i : Info) : Type 0 where
+  pub level : Boxed (from-to 0xc316_0000 0x4248_0000) (i .level .0)
+  pub noise : Boxed (from-to 0xc316_0000 0x4248_0000) (i .noise .0)
+  pub headroom : Boxed (from-to 0x0000_0000 0x42c8_0000) (i .headroom .0)
+  pub envelope : Boxed (from-to 0xc316_0000 0x42c8_0000) (i .envelope .0)
+
+-- Figures that are accepted lie in their ranges.
+pub in-figures : (i : Info) → HeldInfo i → accepted i ≡ true → InFigures i
+unfolding accepted ofBits
+in-figures i k h =
+    let a = Figures.probability (i .probability) in
+    let b = Figures.level (i .level .0) in
+    let c = Figures.level (i .noise .0) in
+    let d = Figures.headroom (i .headroom .0) in
+    let e = Figures.envelope (i .envelope .0) in
+    let four = and-first (a && b && c && d) e h in
+    let three = and-first (a && b && c) d four in
+    let two = and-first (a && b) c three in
+    record {
+      level = closed-box 0xc316_0000 0x4248_0000 tt tt (i .level .0) (k .level) (and-second a b two);
+      noise = closed-box 0xc316_0000 0x4248_0000 tt tt (i .noise .0) (k .noise) (and-second (a && b) c three);
+      headroom = above-box 0x0000_0000 0x42c8_0000 tt tt (i .headroom .0) (k .headroom) (and-second (a && b && c) d four);
+      envelope = closed-box 0xc316_0000 0x42c8_0000 tt tt (i .envelope .0) (k .envelope) (and-second (a && b && c && d) e h);
+    }

@@ -1,0 +1,206 @@
+-- A state that passes, given accepted figures, decides on a state that passes: its gain lies from 0 to 51, its factor from 1 to 355.
+use mathlib.Core.Path.{_≡_, refl, sym, ap, _∙_, subst}
+use mathlib.Core.Bool.{Bool, true, false, _&&_, cond, false≢true}
+use Prim.Native.Nat.{ℕ, _+_, _-_, _*_, _≤_, _<_}
+use native.Mathlib.Omega.{arith}
+use borrow.Author.Tests.{leb-true, le-leb, ne-eqb}
+use lib.Dec.{T, leb, ltb, eqb}
+use lib.Ieee.{Float, binary32, ofBits, add, eq, ne, le, lt, fits, size as bits}
+use lib.Ieee.Fits.{add-fits}
+use Rattle.rounding.specs.Units.{P, N, Number, In}
+use Rattle.rounding.specs.Laws.Order.{le→units, units→le}
+use Rattle.rounding.specs.Laws.Exact.{constant-number}
+use Rattle.frames.specs.Facts.{and-first, and-second}
+use Rattle.intervals.specs.Interval.{Boxed}
+use Rattle.intervals.specs.Laws.Choice.{leq-trans}
+use Rattle.units.specs.Figures as Figures
+use Rattle.units.specs.Settings as Settings
+use Rattle.runs.specs.Runs.{speech}
+use Rattle.decibels.specs.Ratio.{answer}
+use Rattle.gain_applier.specs.Applier as Applier
+use Rattle.gain_applier.specs.Laws.Again.{aimed-passes}
+use Rattle.gain_applier.specs.declared.Applier.{Applier as Gainer}
+use Rattle.adaptive_digital_gain_controller.specs.Target.{target}
+use Rattle.adaptive_digital_gain_controller.specs.Change.{perFrame, waits, increase, changed}
+use Rattle.adaptive_digital_gain_controller.specs.Controller.{accepted, largest, passes, aimed, decided}
+use Rattle.adaptive_digital_gain_controller.specs.Calls.{with-applier}
+use Rattle.adaptive_digital_gain_controller.specs.Range.{zero, Goal, Gain, Factor, HeldSettings, HeldInfo, HeldState, Ready}
+use Rattle.adaptive_digital_gain_controller.specs.Laws.Boxes.{is-true, from-to, closed-box, InSettings, in-settings, in-figures}
+use Rattle.adaptive_digital_gain_controller.specs.Laws.Target.{target-in-range}
+use Rattle.adaptive_digital_gain_controller.specs.Laws.Change.{Step, change-step, rise-step, frame-box, equal-box, stays, held-down}
+use Rattle.adaptive_digital_gain_controller.specs.Laws.Factor.{factor-stays, factor-passes}
+use Rattle.adaptive_digital_gain_controller.specs.declared.Info.{Info}
+use Rattle.adaptive_digital_gain_controller.specs.declared.Controller.{Controller}
+
+-- what a state that passes has passed
+pub record Passed (c : Controller) : Type 0 where
+  pub settings : Settings.accepted (c .settings) ≡ true
+  pub threshold : Settings.threshold (c .threshold) ≡ true
+  pub change : eq (c .change) (perFrame (c .settings .change)) ≡ true
+  pub waiting : leb (c .waiting) (c .threshold) ≡ true
+  pub gain : Figures.gain (c .gain) ≡ true
+  pub applier : Applier.passes (c .applier) ≡ true
+  pub last : le (c .applier .last) largest ≡ true
+  pub current : le (c .applier .current) largest ≡ true
+
+-- A state that passes has passed each of the eight tests.
+pub passed-all : (c : Controller) → passes c ≡ true → Passed c
+unfolding passes
+passed-all c h =
+    let t1 = Settings.accepted (c .settings) in
+    let t2 = Settings.threshold (c .threshold) in
+    let t3 = eq (c .change) (perFrame (c .settings .change)) in
+    let t4 = leb (c .waiting) (c .threshold) in
+    let t5 = Figures.gain (c .gain) in
+    let t6 = Applier.passes (c .applier) in
+    let t7 = le (c .applier .last) largest in
+    let t8 = le (c .applier .current) largest in
+    let a7 = and-first (t1 && t2 && t3 && t4 && t5 && t6 && t7) t8 h in
+    let a6 = and-first (t1 && t2 && t3 && t4 && t5 && t6) t7 a7 in
+    let a5 = and-first (t1 && t2 && t3 && t4 && t5) t6 a6 in
+    let a4 = and-first (t1 && t2 && t3 && t4) t5 a5 in
+    let a3 = and-first (t1 && t2 && t3) t4 a4 in
+    let a2 = and-first (t1 && t2) t3 a3 in
+    record {
+      settings = and-first t1 t2 a2;
+      threshold = and-second t1 t2 a2;
+      change = and-second (t1 && t2) t3 a3;
+      waiting = and-second (t1 && t2 && t3) t4 a4;
+      gain = and-second (t1 && t2 && t3 && t4) t5 a5;
+      applier = and-second (t1 && t2 && t3 && t4 && t5) t6 a6;
+      last = and-second (t1 && t2 && t3 && t4 && t5 && t6) t7 a7;
+      current = and-second (t1 && t2 && t3 && t4 && t5 && t6 && t7) t8 h;
+    }
+
+-- And what has passed all eight passes.
+pub passing : (c : Controller) → Passed c → passes c ≡ true
+unfolding passes
+passing c p = all (p .settings) (p .threshold) (p .change) (p .waiting) (p .gain) (p .applier) (p .last) (p .current)
+  where
+    all : {a b d e f g h i : Bool} → a ≡ true → b ≡ true → d ≡ true → e ≡ true → f ≡ true → g ≡ true → h ≡ true → i ≡ true → a && b && d && e && f && g && h && i ≡ true
+    all p q r s t u v w = rw (p, q, r, s, t, u, v, w)
+
+-- A threshold that passes is at most 200.
+pub threshold-most : (n : ℕ) → Settings.threshold n ≡ true → n ≤ 200
+threshold-most n h = leb-true n 200 (and-second (leb 1 n) (leb n 200) h)
+
+-- A gain that passes lies from 0 to 51.
+pub gain-in : (x : Float) → T (fits binary32 x) → Figures.gain x ≡ true → Gain x
+unfolding ofBits
+gain-in x t h = closed-box 0x0000_0000 0x424c_0000 tt tt x t h .inside
+
+-- And what lies there passes.
+pub gain-passes : (x : Float) → Gain x → Figures.gain x ≡ true
+unfolding ofBits
+gain-passes x g =
+    let top = ofBits binary32 0x424c_0000 in
+    rw (is-true (le zero x) (units→le zero x (constant-number 0x0000_0000 tt) (g .number) (g .above)), is-true (le x top) (units→le x top (g .number) (constant-number 0x424c_0000 tt) (g .below)))
+
+-- An initial gain that is accepted passes.
+pub initial-passes : (x : Float) → Boxed (from-to 0x0000_0000 0x4248_0000) x → Figures.gain x ≡ true
+unfolding ofBits le lt eq bits
+initial-passes x b =
+    let top = ofBits binary32 0x4248_0000 in
+    let end = ofBits binary32 0x424c_0000 in
+    let up = le→units top end (constant-number 0x4248_0000 tt) (constant-number 0x424c_0000 tt) tt in
+    gain-passes x (record { number = b .inside .number; above = b .inside .above; below = leq-trans x top end (b .inside .below) up })
+
+-- The frames that are still to come are at most the threshold.
+pub waits-most : (talks : Bool) (threshold waiting : ℕ) → leb waiting threshold ≡ true → leb (waits talks threshold waiting) threshold ≡ true
+unfolding waits
+waits-most true threshold waiting h = le-leb (waiting - 1) threshold (let k = leb-true waiting threshold h in omega arith)
+waits-most false threshold waiting h = le-leb threshold threshold (omega arith)
+
+-- ---- the applier
+-- an applier that passes, with factors up to 355 that are f32
+pub record Sure (a : Gainer) : Type 0 where
+  pub last : T (fits binary32 (a .last))
+  pub current : T (fits binary32 (a .current))
+  pub state : Applier.passes a ≡ true
+  pub small : le (a .last) largest ≡ true
+  pub next : le (a .current) largest ≡ true
+
+-- Where the gain lies from 0 to 51, the applier that is aimed at its ratio passes, with factors up to 355.
+pub aimed-sure : (a : Gainer) (change gain : Float) → Sure a → Gain gain → Sure (aimed a change gain)
+unfolding aimed Applier.aimed
+aimed-sure a change gain s g =
+    let f = factor-stays gain (g .number .held) (gain-passes gain g) in
+    let p = factor-passes (answer gain .ratio) f in
+    go (ne change zero) (rw (s .state, p .0) (record { last = s .last; current = f .number .held; state = rw (s .state, p .0) at (aimed-passes a (answer gain .ratio) (s .state) (p .0)); small = s .small; next = p .1 }))
+  where
+    go : {next : Gainer} (b : Bool) → Sure next → Sure (cond b next a)
+    go true k = k
+    go false k = s
+
+-- ---- the state that a frame's figures decide on
+module _ (c : Controller) (i : Info) (h : HeldState c) (k : HeldInfo i) (p : passes c ≡ true) (a : accepted i ≡ true) where
+  all : Passed c
+  all = passed-all c p
+
+  settings : InSettings (c .settings)
+  settings = in-settings (c .settings) (h .settings) (all .settings)
+
+  old : Gain (c .gain)
+  old = gain-in (c .gain) (h .gain) (all .gain)
+
+  -- The target is a number from 0 to the f32 next above 50.
+  pub goal : Goal (target (c .settings) (c .gain) i)
+  goal = target-in-range (c .settings) (c .gain) i settings old (in-figures i k a)
+
+  per-frame : Boxed (from-to 0x0000_0000 0x3f80_0000) (c .change)
+  per-frame = equal-box (from-to 0x0000_0000 0x3f80_0000) (c .change) (perFrame (c .settings .change)) (h .change) (frame-box (c .settings .change) (settings .change)) (all .change)
+
+  most : Step (c .change)
+  most = change-step (c .change) per-frame
+
+  rise : (first : Bool) → Step (increase first (c .threshold) (c .change))
+  rise first = rise-step first (c .threshold) (c .change) (threshold-most (c .threshold) (all .threshold)) per-frame
+
+  -- From a state that passes and accepted figures the new gain is a number from 0 to 51.
+  pub gain-stays : Gain (decided c i .gain)
+  unfolding decided
+  gain-stays =
+      let waiting = waits (speech (i .probability)) (c .threshold) (c .waiting) in
+      let first = eqb waiting 0 && ltb 0 (c .waiting) in
+      stays (target (c .settings) (c .gain) i) (c .gain) (c .change) (increase first (c .threshold) (c .change)) (eqb waiting 0) goal old most (rise first)
+
+  -- Where a frame is still to come, it is not above the gain before it.
+  pub gain-waits : 0 < decided c i .waiting → le (decided c i .gain) (c .gain) ≡ true
+  unfolding decided
+  gain-waits w =
+      let waiting = waits (speech (i .probability)) (c .threshold) (c .waiting) in
+      let first = eqb waiting 0 && ltb 0 (c .waiting) in
+      let d = held-down (target (c .settings) (c .gain) i) (c .gain) (c .change) (increase first (c .threshold) (c .change)) (eqb waiting 0) goal old most (rise first) (ne-eqb waiting 0 (λ (e : waiting ≡ 0). some waiting w e)) in
+      is-true (le (decided c i .gain) (c .gain)) (units→le (decided c i .gain) (c .gain) (d .number) (old .number) (d .below))
+    where
+      some : (n : ℕ) → 0 < n → n ≡ 0 → ⊥
+      some n h e = omega arith
+
+  -- The applier inside passes, with factors up to 355.
+  pub applier-sure : Sure (decided c i .applier)
+  unfolding decided
+  applier-sure =
+      let waiting = waits (speech (i .probability)) (c .threshold) (c .waiting) in
+      let first = eqb waiting 0 && ltb 0 (c .waiting) in
+      let change = changed (target (c .settings) (c .gain) i) (c .gain) (eqb waiting 0) (c .change) (increase first (c .threshold) (c .change)) in
+      aimed-sure (c .applier) change (add binary32 (c .gain) change) (record { last = h .last; current = h .current; state = all .applier; small = all .last; next = all .current })
+      (stays (target (c .settings) (c .gain) i) (c .gain) (c .change) (increase first (c .threshold) (c .change)) (eqb waiting 0) goal old most (rise first))
+
+  -- The state passes with any applier that passes with factors up to 355, if that is put in its place.
+  pub decided-ready : (b : Gainer) → Sure b → Ready (with-applier (decided c i) b)
+  unfolding decided with-applier
+  decided-ready b s =
+      record {
+        held = record { settings = h .settings; change = h .change; gain = gain-stays .number .held; last = s .last; current = s .current };
+        state = passing (with-applier (decided c i) b)
+        (record {
+          settings = all .settings;
+          threshold = all .threshold;
+          change = all .change;
+          waiting = waits-most (speech (i .probability)) (c .threshold) (c .waiting) (all .waiting);
+          gain = gain-passes (decided c i .gain) gain-stays;
+          applier = s .state;
+          last = s .small;
+          current = s .next;
+        });
+      }
