@@ -1,9 +1,14 @@
 -- The chain over a list of events, by the calls that are promised. Today the one event is a frame. Definitions only.
-use mathlib.Core.Bool.{Bool}
+use mathlib.Core.Bool.{Bool, _&&_}
 use mathlib.Core.List.{List, [], _∷_}
 use Prim.Native.Nat.{ℕ}
+use lib.Dec.{eqb}
+use lib.ListN.{length}
 use lib.Ieee.{Float}
+use Rattle.frames.specs.Shape.{isShape}
+use Rattle.frames.specs.Samples.{largestInput, allWithin}
 use Rattle.runs.specs.Runs.{speech}
+use Rattle.chain.specs.Chain.{accepted}
 use Rattle.chain.specs.Calls.{Stepped, stepped, Called, called}
 use Rattle.chain.specs.declared.Chain.{Chain}
 use Rattle.chain.specs.declared.Figures.{Figures}
@@ -28,6 +33,11 @@ soundOf (frame f s) = s
 unfoldable pub stepOf : Chain → Event → Stepped
 unfolding stepped
 stepOf c (frame f s) = stepped c f (s .buffer) (s .channels) (s .samples)
+
+-- an event that a chain of so many samples takes: shape, samples, figures and every sample are as they should be
+unfoldable pub takes : ℕ → Event → Bool
+unfolding isShape accepted allWithin
+takes n (frame f s) = isShape (s .channels) (s .samples) (length (s .buffer)) && eqb (s .samples) n && accepted f && allWithin largestInput (s .buffer)
 
 -- the call that an event makes
 unfoldable pub callOf : Chain → Event → Called

@@ -3,3 +3,4 @@ pub mod Parts
 pub mod Steps
 pub mod Ground
 pub mod NoTrace
+pub mod Calls
