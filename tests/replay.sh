@@ -18,20 +18,44 @@ same "replay: the paper's ratios" \
     "[00000000 3f800000] [$ten] [00000000 42c80000] [00000000 43b1681d] [00000002 00000000]" \
     "$(printf 'ratio %s\n' 00000000 41a00000 42200000 424c0000 bf800000 | answers)"
 
-same "replay: push 1 to 5, and the oldest is 2" \
-    "[00000000 00000001 00000004 40a00000 40000000 40400000 40800000 00000001 40000000]" \
-    "$({ printf 'ring.push %s\n' 3f800000 40000000 40400000 40800000 40a00000; echo ring.front; } | answers | sed 's/.* \[/[/')"
+same "replay: push 1 to 5, and the oldest is 2 (the ring, its test, 4 of 4, the oldest, the size, equality)" \
+    "[00000000 00000001 00000004 40a00000 40000000 40400000 40800000 00000001 00000004 00000000 00000001 40000000 00000000 00000004 00000000 00000000]" \
+    "$(printf 'ring.push %s\n' 3f800000 40000000 40400000 40800000 40a00000 | answers | sed 's/.* \[/[/')"
 
-same "replay: an empty ring has none" \
-    "[00000000 00000000 00000000 00000000 00000000 00000000 00000000 00000000 00000000]" "$(echo ring.front | answers)"
+same "replay: an empty ring has none" "00000000 00000000 00000000" "$(echo ring.new | replay | cut -d' ' -f10-12)"
 
-same "replay: the paper's levels: 0, 30057.297, 33724.844, 36575.03, 65536 (gain and region)" \
-    "3f800000 00000000 3f800000 00000001 3f747a65 00000002 3f651c1d 00000002 3f000000 00000003" \
-    "$(printf 'curve.level %s\n' 00000000 46ead298 4703bcd8 470edf08 47800000 | replay | cut -d' ' -f2,12 | paste -sd' ')"
+same "replay: the paper's levels: 0, 30057.297, 33724.844, 36575.03, 65536 (region and gain)" \
+    "00000000 3f800000 00000001 3f800000 00000002 3f747a65 00000002 3f651c1d 00000003 3f000000" \
+    "$(printf 'curve.level %s\n' 00000000 46ead298 4703bcd8 470edf08 47800000 | replay | cut -d' ' -f11,15 | paste -sd' ')"
 
 same "replay: a state goes on from line to line, and new starts it afresh" \
     "00000002 00000000 00000001" \
-    "$(printf 'curve.level 00000000\ncurve.level 00000000\ncurve.new\ncurve.level 00000000\n' | replay | cut -d' ' -f4 | sed 1d | paste -sd' ')"
+    "$(printf 'curve.level 00000000\ncurve.level 00000000\ncurve.new\ncurve.level 00000000\n' | replay | cut -d' ' -f3 | sed 1d | paste -sd' ')"
+
+for part in estimator limiter; do
+    same "replay: $part: the paper's samples, 20, 50 and 500 refused with 1, 40 and 480 accepted" "1 1 1 0 0" \
+        "$(printf "$part.new %08x\n" 20 50 500 40 480 | replay | cut -c8 | paste -sd' ')"
+done
+
+# A frame of so many samples at 1, asked about as some channels of 480.
+frame() { # NAME CHANNELS SAMPLES
+    printf '%s %08x 000001e0' "$1" "$2"
+    [ "$3" -eq 0 ] || yes ' 3f800000' | head -n "$3" | tr -d '\n'
+    echo
+}
+ones() { replay | tail -n 1 | grep -o ' 3f800000' | wc -l; }
+
+same "replay: the largest frame, 8 channels of 480, is limited: 3840 samples, the factor, the level and the one that is told" 3843 \
+    "$({ echo limiter.new 000001e0; frame limiter.process 8 3840; } | ones)"
+same "replay: a gain of 1 leaves it: 3840 samples, both factors and the one that is told" 3843 \
+    "$({ echo applier.new 00000000 3f800000; frame applier.apply 8 3840; } | ones)"
+same "replay: a frame one sample short is refused with 1, and given back" "00000001 3842" \
+    "$({ echo applier.new 00000000 3f800000; frame applier.apply 8 3839; } >"$room/short"; replay <"$room/short" | tail -n 1 | cut -d' ' -f1) $(ones <"$room/short")"
+same "replay: a frame of no sample is refused with 1" 00000001 \
+    "$({ echo limiter.new 000001e0; frame limiter.process 1 0; } | replay | tail -n 1 | cut -d' ' -f1)"
+same "replay: more samples than a frame can have are no question" "?" "$(frame applier.apply 8 3841 | replay)"
+same "replay: before new every figure is 0, which no state passes" 00000004 \
+    "$(frame applier.apply 1 480 | replay | cut -d' ' -f1)"
 
 same "replay: an empty line is no question" "?" "$(echo | replay)"
 

@@ -54,14 +54,14 @@ const REGIONS: [f32; 4] = [1000.0, 32000.0, 35000.0, 40000.0];
 
 /// The statistics as a state has them, also one that the Rust's types cannot hold.
 #[derive(Clone, Copy)]
-struct State {
-    counts: [u64; 4],
-    available: bool,
-    region: u32,
-    duration: i64,
+pub struct State {
+    pub counts: [u64; 4],
+    pub available: bool,
+    pub region: u32,
+    pub duration: i64,
 }
 
-const FRESH: State = State {
+pub const FRESH: State = State {
     counts: [0; 4],
     available: false,
     region: 0,
@@ -70,17 +70,37 @@ const FRESH: State = State {
 
 impl State {
     /// A region that there is; "duration not negative".
-    fn passes(&self) -> bool {
+    pub fn passes(&self) -> bool {
         self.region <= 3 && self.duration >= 0
     }
 
-    fn figures(&self) -> Vec<u32> {
+    pub fn figures(&self) -> Vec<u32> {
         let mut all: Vec<u32> = self.counts.iter().flat_map(|&n| halves(n)).collect();
         all.push(self.available as u32);
         all.push(self.region);
         all.extend(halves(self.duration as u64));
         all
     }
+
+    /// The gain of a level, by the Rust's curve, and the state after it.
+    pub fn look_up(&mut self, level: f32) -> f32 {
+        let mut curve = published(self);
+        let gain = looked(&mut curve, level).0;
+        *self = state_of(&curve.stats);
+        gain
+    }
+}
+
+/// Looks a level up in the Rust's curve, and says whether the duration is held: "held at its largest
+/// value (a difference)", where the Rust's rolls over.
+fn looked(curve: &mut Published, level: f32) -> (f32, bool) {
+    let before = state_of(&curve.stats);
+    let gain = curve.look_up_gain_to_apply(level);
+    let held = before.duration == i64::MAX && curve.stats.region as u32 == before.region;
+    if held {
+        curve.stats.region_duration_frames = i64::MAX;
+    }
+    (gain, held)
 }
 
 fn published(state: &State) -> Published {
@@ -145,6 +165,15 @@ impl Desk {
         self.failing.unwrap_or_else(|| state_of(self.curve.get_stats()))
     }
 
+    /// Asks; the answer is the reply, the state, whether it passes, the gain, and what follows.
+    fn put(&self, name: &str, figures: &[u32], reply: u32, gain: f32, rest: &[u32], to: Ask) -> bool {
+        let mut all = vec![reply];
+        all.extend(self.state().figures());
+        all.extend([self.failing.is_none() as u32, bits(gain)]);
+        all.extend(rest);
+        to(lines::question(name, figures), lines::answer(&all))
+    }
+
     fn fresh(&mut self, to: Ask) -> bool {
         self.others += 1;
         self.curve = published(&FRESH);
@@ -154,9 +183,7 @@ impl Desk {
         if own != FRESH.figures() {
             self.unlike.push("the Rust's new curve is another".to_string());
         }
-        let mut all = vec![DONE, 0];
-        all.extend(self.state().figures());
-        to("curve.new".to_string(), lines::answer(&all))
+        self.put("curve.new", &[], DONE, 0.0, &[], to)
     }
 
     fn set(&mut self, state: State, to: Ask) -> bool {
@@ -167,16 +194,7 @@ impl Desk {
         } else {
             self.failing = Some(state);
         }
-        let mut all = vec![DONE, 0];
-        all.extend(self.state().figures());
-        to(lines::question("curve.set", &state.figures()), lines::answer(&all))
-    }
-
-    fn passes(&mut self, to: Ask) -> bool {
-        self.others += 1;
-        let mut all = vec![DONE, self.failing.is_none() as u32];
-        all.extend(self.state().figures());
-        to("curve.passes".to_string(), lines::answer(&all))
+        self.put("curve.set", &state.figures(), DONE, 0.0, &[], to)
     }
 
     /// The statistics as the call gives them. The state stays, as the next answer shows.
@@ -186,9 +204,7 @@ impl Desk {
             Some(_) => (SETTING, FRESH),
             None => (DONE, self.state()),
         };
-        let mut all = vec![reply, 0];
-        all.extend(given.figures());
-        to("curve.stats".to_string(), lines::answer(&all))
+        self.put("curve.stats", &[], reply, 0.0, &given.figures(), to)
     }
 
     /// 4 comes before 2, and a refused look-up has gain 0 and counts nothing.
@@ -199,13 +215,8 @@ impl Desk {
         } else if !(0.0..=LARGEST).contains(&x) {
             (FIGURE, 0.0)
         } else {
-            let before = self.state();
-            let gain = self.curve.look_up_gain_to_apply(x);
-            if before.duration == i64::MAX && self.state().region == before.region {
-                // "held at its largest value (a difference)": the Rust's has rolled over.
-                self.held += 1;
-                self.curve.stats.region_duration_frames = i64::MAX;
-            }
+            let (gain, held) = looked(&mut self.curve, x);
+            self.held += held as usize;
             (DONE, gain)
         };
         if reply == DONE {
@@ -213,9 +224,7 @@ impl Desk {
         } else {
             self.refused += 1;
         }
-        let mut all = vec![reply, bits(gain)];
-        all.extend(self.state().figures());
-        to(lines::question("curve.level", &[figure]), lines::answer(&all))
+        self.put("curve.level", &[figure], reply, gain, &[], to)
     }
 }
 
@@ -239,7 +248,7 @@ fn random_level(source: &mut Random) -> u32 {
 }
 
 /// A state that is handed in: counts near the roll-over, a duration at its largest, or one that fails.
-fn handed_in(desk: &mut Desk, source: &mut Random, to: Ask) -> bool {
+pub fn any_state(source: &mut Random) -> State {
     let mut state = State {
         counts: [0; 4],
         available: source.up_to(1) == 1,
@@ -261,7 +270,7 @@ fn handed_in(desk: &mut Desk, source: &mut Random, to: Ask) -> bool {
         4 | 5 => state.duration = source.up_to(u32::MAX) as i64,
         _ => (),
     }
-    desk.set(state, to)
+    state
 }
 
 /// Some look-ups in one region, then in another.
@@ -286,9 +295,8 @@ fn sequence(desk: &mut Desk, source: &mut Random, calls: usize, to: Ask) -> bool
         }
         going = match source.up_to(255) {
             0 => repeats(desk, source, to),
-            1 | 2 => handed_in(desk, source, to),
-            3 => desk.passes(to),
-            4 | 5 => desk.stats(to),
+            1 | 2 => desk.set(any_state(source), to),
+            3..=5 => desk.stats(to),
             6 => desk.fresh(to),
             _ => desk.level(random_level(source), to),
         };
@@ -328,7 +336,6 @@ pub fn list(seed: u64, to: Ask) -> Vec<String> {
         State { duration: i64::MIN, ..full },
     ] {
         desk.set(failing, to);
-        desk.passes(to);
         desk.stats(to);
         desk.level(0, to);
         desk.level(0x7fc0_0000, to);

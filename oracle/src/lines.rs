@@ -3,21 +3,34 @@
 
 /// Document 01's numbers of replies.
 pub const DONE: u32 = 0;
+pub const SHAPE: u32 = 1;
 pub const FIGURE: u32 = 2;
+pub const SAMPLE: u32 = 3;
 pub const SETTING: u32 = 4;
+
+/// Figures, each with one space before it.
+fn put(line: &mut String, figures: &[u32]) {
+    line.reserve(9 * figures.len());
+    for figure in figures {
+        line.push(' ');
+        for place in (0..8).rev() {
+            let digit = figure >> (4 * place) & 15;
+            line.push(char::from_digit(digit, 16).unwrap_or('?'));
+        }
+    }
+}
 
 /// Figures with one space between them.
 pub fn answer(figures: &[u32]) -> String {
-    let all: Vec<String> = figures.iter().map(|f| format!("{:08x}", f)).collect();
-    all.join(" ")
+    let mut line = String::new();
+    put(&mut line, figures);
+    line.split_off(line.len().min(1))
 }
 
 /// A name and figures.
 pub fn question(name: &str, figures: &[u32]) -> String {
     let mut line = name.to_string();
-    for figure in figures {
-        line.push_str(&format!(" {:08x}", figure));
-    }
+    put(&mut line, figures);
     line
 }
 

@@ -3,13 +3,13 @@
 //! this program writes them.
 
 use crate::drive::Pair;
-use crate::{curve, ratio, ring};
+use crate::{applier, curve, estimator, limiter, ratio, ring};
 
 /// The seed of the list's random questions.
 const SEED: u64 = 1;
 
 /// Lines that are no question: each is answered ?.
-const NOT_ASKED: [&str; 38] = [
+const NOT_ASKED: [&str; 47] = [
     "",
     " ",
     ".",
@@ -43,11 +43,20 @@ const NOT_ASKED: [&str; 38] = [
     "ring.",
     "ring.push",
     "ring.pus 3f800000",
-    "ring.front 3f800000",
+    "ring.keep 3f800000",
     "ring.push 3f800000 3f800000",
     "ring.set 00000000 00000000 00000000 00000000 00000000",
     "curve.push 3f800000",
     "curve.level",
+    "estimator",
+    "estimator.level",
+    "estimator.level 00000001",
+    "estimator.new",
+    "estimator.samples 00000028 00000028",
+    "applier.apply 00000001",
+    "applier.new 00000000",
+    "limiter.process 00000001",
+    "limiter.set 00000000",
 ];
 
 /// The questions with their answers. The last line is cut: it has no line feed.
@@ -61,6 +70,9 @@ fn list() -> Result<Vec<Pair>, String> {
     ratio::list(SEED, &mut to);
     unlike.extend(ring::list(SEED, &mut to));
     unlike.extend(curve::list(SEED, &mut to));
+    unlike.extend(estimator::list(SEED, &mut to));
+    unlike.extend(applier::list(SEED, &mut to));
+    unlike.extend(limiter::list(SEED, &mut to));
     for line in NOT_ASKED {
         to(line.to_string(), "?".to_string());
     }

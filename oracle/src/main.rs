@@ -8,13 +8,17 @@
 //! A part that is added has a file of its own, with its questions and the answers that are due, and
 //! its lines in `parts` and in list.rs.
 
+mod applier;
 mod curve;
 mod drive;
+mod estimator;
+mod limiter;
 mod lines;
 mod list;
 mod random;
 mod ratio;
 mod ring;
+mod sound;
 
 use drive::Part;
 use std::process::exit;
@@ -71,6 +75,9 @@ fn parts(seed: u64, long: bool) -> Vec<Box<dyn Part>> {
         Box::new(ratio::Ratios::new(seed, long)),
         Box::new(ring::Rings::new(seed, long)),
         Box::new(curve::Curves::new(seed, long)),
+        Box::new(estimator::Estimators::new(seed, long)),
+        Box::new(applier::Appliers::new(seed, long)),
+        Box::new(limiter::Limiters::new(seed, long)),
     ]
 }
 

@@ -101,8 +101,9 @@ impl Desk {
         }
     }
 
-    /// Asks; the answer is the reply, the whole ring as it is then, and two results, 0 where there is none.
-    fn put(&mut self, name: &str, figures: &[u32], reply: u32, results: &[u32], to: Ask) -> bool {
+    /// Asks; the answer is the reply, the whole ring as it is then, and what each call says that only
+    /// looks at it.
+    fn put(&mut self, name: &str, figures: &[u32], reply: u32, to: Ask) -> bool {
         let question = lines::question(name, figures);
         self.hold(&question);
         if reply != DONE {
@@ -110,8 +111,10 @@ impl Desk {
         }
         let mut all = vec![reply];
         all.extend(self.ring.figures());
-        all.extend_from_slice(results);
-        all.resize(9, 0);
+        all.extend([self.ring.passes() as u32, CAPACITY as u32]);
+        all.extend(self.front());
+        all.extend(if self.ring.passes() { [DONE, self.ring.size as u32] } else { [SETTING, 0] });
+        all.extend(self.equals());
         to(question, lines::answer(&all))
     }
 
@@ -135,7 +138,7 @@ impl Desk {
     fn fresh(&mut self, to: Ask) -> bool {
         self.ring = EMPTY;
         self.published = Some(Published::default());
-        self.put("ring.new", &[], DONE, &[], to)
+        self.put("ring.new", &[], DONE, to)
     }
 
     fn set(&mut self, place: u32, size: u32, stored: [u32; CAPACITY], to: Ask) -> bool {
@@ -147,15 +150,7 @@ impl Desk {
         self.published = published(&self.ring);
         let mut figures = vec![place, size];
         figures.extend(stored);
-        self.put("ring.set", &figures, DONE, &[], to)
-    }
-
-    fn passes(&mut self, to: Ask) -> bool {
-        self.put("ring.passes", &[], DONE, &[self.ring.passes() as u32], to)
-    }
-
-    fn capacity(&mut self, to: Ask) -> bool {
-        self.put("ring.capacity", &[], DONE, &[CAPACITY as u32], to)
+        self.put("ring.set", &figures, DONE, to)
     }
 
     /// "A pushed peak is any finite number"; 4 comes before 2.
@@ -175,7 +170,7 @@ impl Desk {
             }
             DONE
         };
-        self.put("ring.push", &[figure], reply, &[], to)
+        self.put("ring.push", &[figure], reply, to)
     }
 
     /// "Reset forgets items, not their storage."
@@ -193,37 +188,29 @@ impl Desk {
         } else {
             SETTING
         };
-        self.put("ring.reset", &[], reply, &[], to)
+        self.put("ring.reset", &[], reply, to)
     }
 
-    fn front(&mut self, to: Ask) -> bool {
+    fn front(&self) -> [u32; 3] {
         if !self.ring.passes() {
-            return self.put("ring.front", &[], SETTING, &[0, 0], to);
+            return [SETTING, 0, 0];
         }
-        let results = match self.ring.items().first() {
-            Some(&x) => [1, bits(x)],
-            None => [0, 0],
-        };
-        self.put("ring.front", &[], DONE, &results, to)
-    }
-
-    fn size(&mut self, to: Ask) -> bool {
-        if !self.ring.passes() {
-            return self.put("ring.size", &[], SETTING, &[0], to);
+        match self.ring.items().first() {
+            Some(&x) => [DONE, 1, bits(x)],
+            None => [DONE, 0, 0],
         }
-        self.put("ring.size", &[], DONE, &[self.ring.size as u32], to)
     }
 
     fn keep(&mut self, to: Ask) -> bool {
         self.aside = self.ring;
         self.published_aside = self.published.clone();
-        self.put("ring.keep", &[], DONE, &[], to)
+        self.put("ring.keep", &[], DONE, to)
     }
 
     /// "Equality is of the items, oldest first."
-    fn equals(&mut self, to: Ask) -> bool {
+    fn equals(&mut self) -> [u32; 2] {
         if !(self.ring.passes() && self.aside.passes()) {
-            return self.put("ring.equals", &[], SETTING, &[0], to);
+            return [SETTING, 0];
         }
         let equal = self.ring.items() == self.aside.items();
         if let (Some(one), Some(other)) = (&self.published, &self.published_aside) {
@@ -231,7 +218,7 @@ impl Desk {
                 self.unlike.push(format!("{:?} and {:?}: equal is {} by the paper alone", one, other, equal));
             }
         }
-        self.put("ring.equals", &[], DONE, &[equal as u32], to)
+        [DONE, equal as u32]
     }
 }
 
@@ -294,16 +281,11 @@ fn call(desk: &mut Desk, source: &mut Random, to: Ask) -> bool {
         return desk.fresh(to);
     }
     match source.up_to(31) {
-        0..=13 => desk.push(any(source), to),
-        14..=17 => desk.front(to),
-        18 | 19 => desk.size(to),
-        20 | 21 => desk.reset(to),
-        22 | 23 => desk.keep(to),
-        24..=27 => desk.equals(to),
-        28 => desk.passes(to),
+        0..=23 => desk.push(any(source), to),
+        24 | 25 => desk.reset(to),
+        26..=28 => desk.keep(to),
         29 => desk.fresh(to),
-        30 => handed_in(desk, source, to),
-        _ => desk.capacity(to),
+        _ => handed_in(desk, source, to),
     }
 }
 
@@ -332,14 +314,14 @@ fn rotated(desk: &mut Desk, source: &mut Random, to: Ask) -> bool {
             going = going && desk.keep(to);
         }
     }
-    going && desk.equals(to)
+    going
 }
 
 /// Pushed through: each item comes to the front once, in order.
 fn through(desk: &mut Desk, source: &mut Random, to: Ask) -> bool {
     (0..2 * CAPACITY).all(|_| {
         let x = pooled(source);
-        desk.front(to) && desk.push(x, to)
+        desk.push(x, to)
     })
 }
 
@@ -363,13 +345,10 @@ fn sequence(desk: &mut Desk, source: &mut Random, calls: usize, to: Ask) -> bool
 /// The questions of the fixed list: document 01's examples, and a sequence.
 pub fn list(seed: u64, to: Ask) -> Vec<String> {
     let mut desk = Desk::new();
-    desk.front(to);
+    desk.fresh(to);
     for x in 1..=5 {
         desk.push((x as f32).to_bits(), to);
     }
-    desk.front(to);
-    desk.size(to);
-    desk.capacity(to);
     // A NaN in a slot that holds no item now, which one push would make an item.
     desk.set(2, 1, [0, 0x7fc0_0000, 0, 0], to);
     desk.push(0, to);

@@ -1,106 +1,156 @@
 // The questions. A line is a name and then figures, each with one space before it, and a figure is
 // eight lower-case hexadecimal digits: the bits of an f32, or a number. The answer is a line of
-// figures with one space between them: the reply's number, and then each result in the order of
-// document 01. A bool is 0 or 1, and a number of 64 bits is two figures, the higher half first.
-// Whatever is no question is answered ? alone.
+// figures with one space between them: the reply's number, the part's whole state as it is then, what
+// each call says that only looks at the state, the other results in the order of document 01, and,
+// where a frame is asked about, each of its samples as it is then. A bool is 0 or 1, and a number of 64
+// bits is two figures, the higher half first. Whatever is no question is answered ? alone.
 //
 //   ratio 41a00000    the ratio of a gain in dB    00000000 41200000
 //
-// A name is a part and, after a dot, what is asked of it: src/ring.rt and src/curve.rt list theirs. A
-// part has one state here, which goes on from line to line; `new` starts it afresh.
+// A name is a part and, after a dot, what is asked of it: each part's file lists its own. A part has
+// one state here, which goes on from line to line; `new` starts it afresh, and before that every
+// figure of it is 0.
+//
+// A frame is asked about by NAME CHANNELS SAMPLES and then any number of sample figures up to 3840, so
+// that frames of a wrong length can be asked about too.
+//
+// The desk is figures in a row: those of the question, how many results there are, the results, and
+// then each part's state with what is shown behind it, as it is answered.
 
+use crate::applier;
 use crate::curve;
+use crate::estimator;
+use crate::figures;
+use crate::limits;
 use crate::lines;
-use crate::lines::Answer;
+use crate::lines::Asked;
+use crate::numbers;
 use crate::ratio;
 use crate::ring;
-use interpolated_gain_curve::Curve;
-use saturation_protector_buffer::Ring;
+use std::num::wrapping_add_usize;
 
-// The states that go on from line to line. `aside` is the ring that `ring.keep` put aside.
-pub struct Desk {
-    pub ring: Ring,
-    pub aside: Ring,
-    pub curve: Curve,
+// Where the figures of the question stand, and how many there are at most but for samples.
+pub const ASKED: usize = 0;
+
+pub const MOST_ASKED: usize = 32;
+
+// Where the number of results stands, and the results.
+pub const RESULTS: usize = 32;
+
+pub const TOLD: usize = 33;
+
+// The reply's number to what is no question.
+pub const NO_QUESTION: u32 = 4294967295;
+
+// The number of a line's name, in the list of all names. Before each name stands how many figures it
+// takes, as a digit in which a is 10, or a star where it takes a frame. A line that is no name with
+// its figures has the number after the last.
+fn word_of(line: &[u8], asked: Asked) -> u32 {
+    lines::number_of(
+        line,
+        asked,
+        b"1ratio 0ring.new 6ring.set 1ring.push 0ring.reset 0ring.keep 0curve.new ccurve.set 1curve.level 0curve.stats 1estimator.new 3estimator.set 1estimator.samples 0estimator.reset *estimator.level 2applier.new 5applier.set 1applier.factor *applier.apply 1limiter.new glimiter.set 1limiter.samples 0limiter.reset *limiter.process ",
+    )
 }
 
-// The states after a question, and its answer.
-pub struct Step {
-    pub desk: Desk,
-    pub answer: Answer,
+// Where a part's figures stand, and how many there are.
+struct Place {
+    from: usize,
+    size: usize,
 }
 
-// What is asked: the number of the part, the number of the word among the part's, and the figures.
-pub struct Call {
-    pub part: u32,
-    pub word: u32,
-    pub count: usize,
-    pub figures: [u32; 12],
-}
-
-// The parts.
-const RATIO: u32 = 0;
-
-const RING: u32 = 1;
-
-const CURVE: u32 = 2;
-
-const NONE: u32 = 3;
-
-impl Desk {
-    pub(crate) fn new() -> Desk {
-        let ring = Ring::new();
-        let aside = Ring::new();
-        let curve = Curve::new();
-        Desk { ring, aside, curve }
-    }
-}
-
-// The number of the word that a name has after its part: what the part's own file lists, in order.
-fn word_of(line: &[u8], part: u32, from: usize, to: usize) -> u32 {
-    if part == RING {
-        lines::number_of(
-            line,
-            from,
-            to,
-            b".new .set .passes .capacity .push .reset .front .size .keep .equals ",
-        )
-    } else if part == CURVE {
-        lines::number_of(line, from, to, b".new .set .passes .level .stats ")
+// The place of the part that a name asks.
+fn place_of(word: u32) -> Place {
+    if word < ring::FIRST {
+        Place { from: 0, size: 0 }
+    } else if word < curve::FIRST {
+        Place {
+            from: ring::FROM,
+            size: ring::SHOWN,
+        }
+    } else if word < estimator::FIRST {
+        Place {
+            from: curve::FROM,
+            size: curve::SHOWN,
+        }
+    } else if word < applier::FIRST {
+        Place {
+            from: estimator::FROM,
+            size: estimator::SHOWN,
+        }
+    } else if word < limits::FIRST {
+        Place {
+            from: applier::FROM,
+            size: applier::SHOWN,
+        }
     } else {
-        lines::number_of(line, from, to, b" ")
+        Place {
+            from: limits::FROM,
+            size: limits::SHOWN,
+        }
     }
 }
 
-// What a line asks. A line that is no name with figures asks nothing of any part.
-fn call_of(line: &[u8]) -> Call {
+// Whether a name asks about a frame.
+fn is_sound(word: u32) -> bool {
+    (word == estimator::LEVEL) | (word == applier::APPLY) | (word == limits::PROCESS)
+}
+
+// Asks the part, which leaves its figures on the desk, and answers the reply.
+fn of_part(word: u32, desk: &mut [u32], frame: &mut [f32]) -> u32 {
+    if word < ring::FIRST {
+        ratio::answer(desk)
+    } else if word < curve::FIRST {
+        ring::answer(word, desk)
+    } else if word < estimator::FIRST {
+        curve::answer(word, desk)
+    } else if word < applier::FIRST {
+        estimator::answer(word, desk, frame)
+    } else if word < limits::FIRST {
+        applier::answer(word, desk, frame)
+    } else if word < limits::LAST {
+        limits::answer(word, desk, frame)
+    } else {
+        NO_QUESTION
+    }
+}
+
+// Puts an answer at a place of a buffer, as a line, and answers the place after it.
+fn put(out: &mut [u8], at: usize, reply: u32, word: u32, desk: &[u32], frame: &[f32]) -> usize {
+    if reply == NO_QUESTION {
+        return lines::end(out, at, at);
+    }
+    let shown = place_of(word);
+    let told = figures::count(desk, RESULTS, 0);
+    let first = lines::put(out, at, reply);
+    let second = lines::put_figures(out, first, desk, shown.from, shown.size);
+    let third = lines::put_figures(out, second, desk, TOLD, told);
+    let last = lines::put_samples(out, third, frame);
+    lines::end(out, at, last)
+}
+
+// Answers what is asked, over a frame of as many samples as there are figures for.
+fn answer_in(
+    line: &[u8],
+    name: usize,
+    word: u32,
+    desk: &mut [u32],
+    frame: &mut [f32],
+    out: &mut [u8],
+    at: usize,
+) -> usize {
+    figures::ask(desk, line, name, MOST_ASKED);
+    figures::store(desk, RESULTS, 0);
+    lines::fill(line, wrapping_add_usize(name, 19), frame);
+    let reply = of_part(word, desk, frame);
+    put(out, at, reply, word, desk, frame)
+}
+
+// Answers a line: puts the answer at a place of a buffer, and answers the place after it.
+pub(crate) fn answer(line: &[u8], desk: &mut [u32], out: &mut [u8], at: usize) -> usize {
     let asked = lines::split(line);
-    let part = lines::number_of(line, 0, asked.part, b"ratio ring curve ");
-    Call {
-        part: if asked.ok { part } else { NONE },
-        word: word_of(line, part, asked.part, asked.name),
-        count: asked.count,
-        figures: lines::figures(line, asked.name),
-    }
-}
-
-// The answer of the part that is asked.
-fn of_part(desk: Desk, call: Call) -> Step {
-    let part = call.part;
-    if part == RING {
-        ring::answer(desk, call)
-    } else if part == CURVE {
-        curve::answer(desk, call)
-    } else if part == RATIO {
-        let answer = ratio::answer(call);
-        Step { desk, answer }
-    } else {
-        let answer = lines::none();
-        Step { desk, answer }
-    }
-}
-
-// The answer to a line.
-pub(crate) fn answer(desk: Desk, line: &[u8]) -> Step {
-    of_part(desk, call_of(line))
+    let word = word_of(line, asked);
+    let mut frame = [0.0f32; lines::MOST];
+    let n = lines::samples_of(numbers::pick(is_sound(word), asked.count, 0), &frame);
+    answer_in(line, asked.name, word, desk, &mut frame[..n], out, at)
 }

@@ -1,22 +1,19 @@
 // A line of a question taken apart, and a line of an answer put together. Every function takes any
 // place: one that lies outside has no byte, no figure, and nothing is put there.
 
+ghost use mathlib.Core.Path.{_≡_};
+ghost use Prim.Native.Nat.{_≤_};
+ghost use lib.ListN.{length, take};
+use crate::figures;
 use std::num::wrapping_add_u32;
 use std::num::wrapping_add_usize;
 
-// What a line says: whether it is a name and then figures, where the name ends, where the first dot
-// of the name is (where there is none, its end), and how many figures follow.
+// What a line says: whether it is a name and then figures, where the name ends, and how many figures
+// follow.
 pub struct Asked {
     pub ok: bool,
-    pub part: usize,
     pub name: usize,
     pub count: usize,
-}
-
-// The figures of an answer: the first so many of them. No figure is no answer.
-pub struct Answer {
-    pub count: usize,
-    pub figures: [u32; 16],
 }
 
 // The byte at a place of a line, and 0 outside.
@@ -36,12 +33,9 @@ fn first(line: &[u8], byte: u8) -> usize {
     i
 }
 
-fn smaller(a: usize, b: usize) -> usize {
-    if b < a { b } else { a }
-}
-
-// How many figures follow a place, each with one space before it, and whether nothing else does.
-fn counted(line: &[u8], part: usize, name: usize) -> Asked {
+// Takes a line apart.
+pub(crate) fn split(line: &[u8]) -> Asked {
+    let name = first(line, b' ');
     let mut ok = true;
     let mut count: usize = 0;
     let mut at = name;
@@ -55,38 +49,48 @@ fn counted(line: &[u8], part: usize, name: usize) -> Asked {
             at + 9
         };
     }
-    Asked {
-        ok,
-        part,
-        name,
-        count,
+    Asked { ok, name, count }
+}
+
+// The most samples that a frame can have.
+pub const MOST: usize = 3840;
+
+// Whether so many figures are as many as a byte of a list says: a digit, in which a is 10, or a star
+// for a frame, which is two figures and its samples.
+fn is_due(count: usize, byte: u8) -> bool {
+    if byte == b'*' {
+        (2 <= count) & (count <= MOST + 2)
+    } else if count < 10 {
+        48 + count as u8 == byte
+    } else if count < 32 {
+        87 + count as u8 == byte
+    } else {
+        false
     }
 }
 
-// Takes a line apart.
-pub(crate) fn split(line: &[u8]) -> Asked {
-    let name = first(line, b' ');
-    let dot = first(line, b'.');
-    counted(line, smaller(dot, name), name)
-}
-
-// The number of the word that stands in a line from one place to another, among the words of a list,
-// which are counted from 0 and have one space after each. Where it is none of them, how many there are.
-pub(crate) fn number_of(line: &[u8], from: usize, to: usize, list: &[u8]) -> u32 {
+// The number of a line's name among the names of a list, which are counted from 0, and each has the byte
+// of `is_due` before it and one space after it. Where it is none of them, or does not have its figures,
+// how many there are.
+pub(crate) fn number_of(line: &[u8], asked: Asked, list: &[u8]) -> u32 {
     let mut n: u32 = 0;
-    let mut at = from;
-    let mut same = true;
+    let mut at: usize = 0;
+    let mut same = asked.ok;
+    let mut due = true;
     let mut i = 0;
     while i < list.len() {
         let byte = list[i];
         i += 1;
-        if byte == b' ' {
-            if same & (at == to) {
+        if due {
+            due = false;
+            same = asked.ok & is_due(asked.count, byte);
+            at = 0;
+        } else if byte == b' ' {
+            if same & (at == asked.name) {
                 return n;
             }
             n = wrapping_add_u32(n, 1);
-            at = from;
-            same = true;
+            due = true;
         } else {
             same = same & (byte_at(line, at) == byte);
             at = wrapping_add_usize(at, 1);
@@ -95,16 +99,30 @@ pub(crate) fn number_of(line: &[u8], from: usize, to: usize, list: &[u8]) -> u32
     n
 }
 
-// The first figures of a line whose name ends at a place.
-pub(crate) fn figures(line: &[u8], name: usize) -> [u32; 12] {
-    let mut all = [0u32; 12];
-    let mut i: usize = 0;
-    while i < 12 {
-        let figure = words::read(line, wrapping_add_usize(name, i * 9 + 1));
-        all[i] = figure.bits;
+// How many of so many figures follow the first two.
+fn after_two(count: usize) -> usize {
+    if count < 2 { 0 } else { count - 2 }
+}
+
+// How many of so many figures are a frame's samples: those after the first two, and no more than there
+// is room for.
+pub(crate) fn samples_of(count: usize, frame: &[f32]) -> usize
+    ensures { λ r. ⌜ (r ≤ length (now (frame .entry))) × (r ≡ length (take r (now (frame .entry)))) ⌝ }
+{
+    let n = after_two(count);
+    if n <= frame.len() { n } else { frame.len() }
+}
+
+// Fills a frame with the figures of a line from a place on.
+pub(crate) fn fill(line: &[u8], from: usize, frame: &mut [f32]) {
+    let mut at = from;
+    let mut i = 0;
+    while i < frame.len() {
+        let figure = words::read(line, at);
+        frame[i] = words::float_of(figure.bits);
+        at = wrapping_add_usize(at, 9);
         i += 1;
     }
-    all
 }
 
 // Stores a byte at a place.
@@ -114,23 +132,39 @@ fn store(out: &mut [u8], at: usize, byte: u8) {
     }
 }
 
-// Puts an answer at a place of a buffer, with its line feed, and answers the place after it. No
-// figure is the answer to what is no question: a question mark.
-pub(crate) fn put(out: &mut [u8], at: usize, answer: Answer) -> usize {
-    let figures = answer.figures;
-    let count = answer.count;
+// Puts a figure at a place of a buffer, with a space after it, and answers the place after that.
+pub(crate) fn put(out: &mut [u8], at: usize, figure: u32) -> usize {
+    words::put(out, at, figure);
+    store(out, wrapping_add_usize(at, 8), b' ');
+    wrapping_add_usize(at, 9)
+}
+
+// Puts so many figures, from one of them on, and answers the place after them.
+pub(crate) fn put_figures(
+    out: &mut [u8],
+    at: usize,
+    all: &[u32],
+    from: usize,
+    count: usize,
+) -> usize {
     let mut to = at;
     let mut i: usize = 0;
-    while i < 16 {
-        if count <= i {
-            return end(out, at, to);
-        }
-        words::put(out, to, figures[i]);
-        store(out, wrapping_add_usize(to, 8), b' ');
-        to = wrapping_add_usize(to, 9);
+    while i < count {
+        to = put(out, to, figures::word(all, from, i));
         i += 1;
     }
-    end(out, at, to)
+    to
+}
+
+// Puts each sample of a frame, and answers the place after them.
+pub(crate) fn put_samples(out: &mut [u8], at: usize, frame: &[f32]) -> usize {
+    let mut to = at;
+    let mut i = 0;
+    while i < frame.len() {
+        to = put(out, to, words::bits_of(frame[i]));
+        i += 1;
+    }
+    to
 }
 
 // Ends the answer that stands from one place to another: the last space becomes a line feed. Where
@@ -143,13 +177,5 @@ pub(crate) fn end(out: &mut [u8], from: usize, to: usize) -> usize {
         store(out, from, b'?');
         store(out, wrapping_add_usize(from, 1), b'\n');
         wrapping_add_usize(from, 2)
-    }
-}
-
-// No answer.
-pub(crate) fn none() -> Answer {
-    Answer {
-        count: 0,
-        figures: [0u32; 16],
     }
 }

@@ -4,16 +4,18 @@
 // A line ends with a line feed. What stands after the last line feed is cut, and is no question.
 // The memory is fixed: input of any length goes through, and a line of any length.
 
+mod applier;
 mod curve;
 mod desk;
+mod estimator;
+mod figures;
+mod limits;
 mod lines;
 mod numbers;
 mod ratio;
 mod ring;
 
 ghost use Rattle.io.specs.Counts.{Counts};
-use desk::Desk;
-use desk::Step;
 
 // A line of 3,900 figures with its name. A longer one is no question.
 const LONGEST_LINE: usize = 35200;
@@ -21,13 +23,15 @@ const LONGEST_LINE: usize = 35200;
 // So many bytes of answers may wait, so that one more answer fits behind them into 65,536 bytes.
 const ENOUGH: usize = 30000;
 
+// The figures of the desk: src/desk.rt. There is room for more parts.
+const FIGURES: usize = 256;
+
 // How far the run is: how many bytes of the line that is being read are kept, how many bytes of
-// answers wait to be written, whether there may be more to read, and the states.
+// answers wait to be written, and whether there may be more to read.
 struct Run {
     kept: usize,
     waiting: usize,
     more: bool,
-    desk: Desk,
 }
 
 // As many bytes of a buffer as asked, and never more than it has.
@@ -65,27 +69,24 @@ fn place(out: &[u8], waiting: usize) -> usize {
     }
 }
 
-// The answer to the line that is kept.
-fn reply(desk: Desk, line: &[u8], kept: usize) -> Step {
+// Answers the line that is kept, behind the answers that wait, and answers how many bytes wait then.
+fn reply(line: &[u8], kept: usize, desk: &mut [u32], out: &mut [u8], waiting: usize) -> usize {
     let n = within(kept, line);
-    desk::answer(desk, &line[..n])
+    let at = place(out, waiting);
+    desk::answer(&line[..n], desk, out, at)
 }
 
 // Takes the bytes that were read, one after the other: a line feed ends the line, which is answered,
 // and any other byte is kept. There may be more to read where some came.
-fn feed(input: &[u8], line: &mut [u8], out: &mut [u8], run: Run) -> Run {
+fn feed(input: &[u8], line: &mut [u8], desk: &mut [u32], out: &mut [u8], run: Run) -> Run {
     let mut kept = run.kept;
     let mut waiting = run.waiting;
-    let mut desk = run.desk;
     let mut i = 0;
     while i < input.len() {
         let byte = input[i];
         i += 1;
         if byte == b'\n' {
-            let step = reply(desk, line, kept);
-            desk = step.desk;
-            let answer = step.answer;
-            waiting = lines::put(out, place(out, waiting), answer);
+            waiting = reply(line, kept, desk, out, waiting);
             kept = 0;
         } else {
             kept = keep(line, kept, byte);
@@ -95,30 +96,28 @@ fn feed(input: &[u8], line: &mut [u8], out: &mut [u8], run: Run) -> Run {
         kept,
         waiting,
         more: 0 < input.len(),
-        desk,
     }
 }
 
 // Reads once, and goes over what came: nothing, at the end of the input and where a read fails.
-fn turn(line: &mut [u8], out: &mut [u8], run: Run) -> Run {
+fn turn(line: &mut [u8], desk: &mut [u32], out: &mut [u8], run: Run) -> Run {
     let mut input = io::large_buffer();
     let got = libc::read(libc::STDIN_FILENO, &mut input);
     let n = io::count(got, &input);
-    feed(&input[..n], line, out, run)
+    feed(&input[..n], line, desk, out, run)
 }
 
 // Reads to the end. A proved loop has to end, and nothing says that the input does: so the loop
 // counts its turns down, from a number that no run uses up.
-fn read_all(line: &mut [u8], out: &mut [u8]) -> Run {
+fn read_all(line: &mut [u8], desk: &mut [u32], out: &mut [u8]) -> Run {
     let mut run = Run {
         kept: 0,
         waiting: 0,
         more: true,
-        desk: Desk::new(),
     };
     let mut turns = u64::MAX;
     while turns > 0 && run.more {
-        run = turn(line, out, run);
+        run = turn(line, desk, out, run);
         turns -= 1;
     }
     run
@@ -136,7 +135,8 @@ fn finish(out: &mut [u8], kept: usize, waiting: usize) {
 
 fn main() {
     let mut line = [0u8; LONGEST_LINE];
+    let mut desk = [0u32; FIGURES];
     let mut out = io::large_buffer();
-    let run = read_all(&mut line, &mut out);
+    let run = read_all(&mut line, &mut desk, &mut out);
     finish(&mut out, run.kept, run.waiting);
 }

@@ -1,4 +1,5 @@
-// Numbers of 64 bits as two figures, the higher half first, a bool as one, and a choice.
+// Numbers of 64 bits as two figures, the higher half first, a number below 0 as its bits, a bool as one
+// figure, and a choice.
 
 // The lower half of a number.
 pub(crate) fn low(n: u64) -> u32 {
@@ -30,6 +31,24 @@ pub(crate) fn signed(n: u64) -> i64 {
         n as i64
     } else {
         -1 - (u64::MAX - n) as i64
+    }
+}
+
+// The bits of a signed number of 32 bits.
+pub(crate) fn unsigned32(n: i32) -> u32 {
+    if 0 <= n {
+        n as u32
+    } else {
+        u32::MAX - (-1 - n) as u32
+    }
+}
+
+// The signed number of 32 bits.
+pub(crate) fn signed32(n: u32) -> i32 {
+    if n <= 2147483647 {
+        n as i32
+    } else {
+        -1 - (u32::MAX - n) as i32
     }
 }
 

@@ -1,38 +1,16 @@
-// Decibels to a ratio.
+// Decibels to a ratio. It has no state, and one result: the ratio.
 //
-//   ratio X           reply, ratio
+//   ratio X
 
-use crate::desk::Call;
-use crate::lines;
-use crate::lines::Answer;
+use crate::desk::ASKED;
+use crate::desk::RESULTS;
+use crate::figures;
 use units::kinds::Db;
 
-pub(crate) fn answer(call: Call) -> Answer {
-    let figures = call.figures;
-    if (call.word == 0) & (call.count == 1) {
-        let a = decibels::ratio(Db(words::float_of(figures[0])));
-        Answer {
-            count: 2,
-            figures: [
-                a.reply,
-                words::bits_of(a.ratio),
-                0,
-                0,
-                0,
-                0,
-                0,
-                0,
-                0,
-                0,
-                0,
-                0,
-                0,
-                0,
-                0,
-                0,
-            ],
-        }
-    } else {
-        lines::none()
-    }
+// Answers the question that lies on the desk.
+pub(crate) fn answer(desk: &mut [u32]) -> u32 {
+    let a = decibels::ratio(Db(figures::float(desk, ASKED, 0)));
+    let told = [1, words::bits_of(a.ratio)];
+    figures::put(desk, RESULTS, &told);
+    a.reply
 }

@@ -1,200 +1,145 @@
-// The ring of recent peaks. Each answer is the reply, the whole ring as it is then (the place, the size
-// and the four stored figures) and two more figures, which are 0 where nothing else is said of them:
+// The ring of recent peaks.
 //
 //   ring.new
-//   ring.set P S A B C D      the ring with this place, this size and these stored figures
-//   ring.passes               whether it passes
-//   ring.capacity             how many peaks a ring can hold
+//   ring.set STATE            the ring with this state
 //   ring.push X
 //   ring.reset
-//   ring.front                0 for none and 1 for the oldest; the oldest
-//   ring.size                 how many peaks there are
 //   ring.keep                 a copy is put aside
-//   ring.equals               whether it equals the one that was put aside
+//
+// Each answer shows the state, which is six figures (the place, the size and the four that are stored);
+// whether it passes; how many peaks a ring can hold; the oldest (a reply, 0 for none and 1 for one, and
+// its value); how many peaks there are (a reply and the number); and whether it equals the one that was
+// put aside (a reply and a bool).
 
-use crate::desk::Call;
-use crate::desk::Desk;
-use crate::desk::Step;
-use crate::lines::Answer;
+use crate::desk::ASKED;
+use crate::figures;
 use crate::numbers;
 use saturation_protector_buffer::Front;
-use saturation_protector_buffer::Next;
 use saturation_protector_buffer::Ring;
 use units::kinds::Dbfs;
 use units::replies::DONE;
 
+// Where the figures stand on the desk, and those of the ring that is put aside.
+pub const FROM: usize = 64;
+
+pub const SHOWN: usize = 15;
+
+const ASIDE: usize = 79;
+
 // The words, by their numbers in the list of src/desk.rt.
-const NEW: u32 = 0;
+pub const FIRST: u32 = 1;
 
-const SET: u32 = 1;
+const NEW: u32 = 1;
 
-const PASSES: u32 = 2;
+const SET: u32 = 2;
 
-const CAPACITY: u32 = 3;
+const PUSH: u32 = 3;
 
-const PUSH: u32 = 4;
+const RESET: u32 = 4;
 
-const RESET: u32 = 5;
-
-const FRONT: u32 = 6;
-
-const SIZE: u32 = 7;
-
-const KEEP: u32 = 8;
-
-const EQUALS: u32 = 9;
-
-const NONE: u32 = 10;
-
-// A reply and two results.
-struct Told {
-    reply: u32,
-    first: u32,
-    second: u32,
-}
-
-// The word, where it has as many figures as it takes.
-fn word_of(word: u32, count: usize) -> u32 {
-    let due = numbers::pick(word == SET, 6, numbers::pick(word == PUSH, 1, 0));
-    if count == due { word } else { NONE }
-}
-
-// The ring of six figures.
-fn ring_of(figures: [u32; 12]) -> Ring {
+// The ring whose figures stand at a place.
+fn read(all: &[u32], from: usize) -> Ring {
     Ring {
         stored: [
-            words::float_of(figures[2]),
-            words::float_of(figures[3]),
-            words::float_of(figures[4]),
-            words::float_of(figures[5]),
+            figures::float(all, from, 2),
+            figures::float(all, from, 3),
+            figures::float(all, from, 4),
+            figures::float(all, from, 5),
         ],
-        place: figures[0] as usize,
-        size: figures[1] as usize,
+        place: figures::count(all, from, 0),
+        size: figures::count(all, from, 1),
     }
 }
 
-// The ring after a word, with the reply where the word changes it.
-fn next(ring: Ring, word: u32, figures: [u32; 12]) -> Next {
-    if word == NEW {
-        Next {
-            reply: DONE,
-            ring: Ring::new(),
-        }
-    } else if word == SET {
-        Next {
-            reply: DONE,
-            ring: ring_of(figures),
-        }
-    } else if word == PUSH {
-        ring.push_back(Dbfs(words::float_of(figures[0])))
-    } else if word == RESET {
-        ring.reset()
-    } else {
-        Next { reply: DONE, ring }
+// The oldest peak: its value, or 0.
+fn value(front: Front) -> u32 {
+    match front {
+        Front::None => 0,
+        Front::Oldest(x) => words::bits_of(x.0),
     }
 }
 
-// The oldest peak, by the number of its case and its value.
-fn oldest(ring: Ring) -> Told {
-    let a = ring.front();
-    let found = a.front;
-    match found {
-        Front::None => Told {
-            reply: a.reply,
-            first: 0,
-            second: 0,
-        },
-        Front::Oldest(x) => Told {
-            reply: a.reply,
-            first: 1,
-            second: words::bits_of(x.0),
-        },
+// Whether there is one.
+fn case(front: Front) -> u32 {
+    match front {
+        Front::None => 0,
+        Front::Oldest(_) => 1,
     }
 }
 
-// What a word says of the ring after it.
-fn results(ring: Ring, aside: Ring, word: u32, reply: u32) -> Told {
-    if word == PASSES {
-        Told {
-            reply,
-            first: numbers::flag(ring.passes()),
-            second: 0,
-        }
-    } else if word == CAPACITY {
-        Told {
-            reply,
-            first: numbers::low(saturation_protector_buffer::capacity() as u64),
-            second: 0,
-        }
-    } else if word == FRONT {
-        oldest(ring)
-    } else if word == SIZE {
-        let a = ring.size();
-        Told {
-            reply: a.reply,
-            first: numbers::low(a.size as u64),
-            second: 0,
-        }
-    } else if word == EQUALS {
-        let a = ring.equals(aside);
-        Told {
-            reply: a.reply,
-            first: numbers::flag(a.equal),
-            second: 0,
-        }
-    } else {
-        Told {
-            reply,
-            first: 0,
-            second: 0,
-        }
-    }
-}
-
-// The ring that is aside after a word.
-fn aside_after(ring: Ring, aside: Ring, word: u32) -> Ring {
-    if word == KEEP { ring } else { aside }
-}
-
-fn said(told: Told, ring: Ring, count: usize) -> Answer {
+// The figures that are shown of a ring.
+fn shown(ring: Ring, aside: Ring) -> [u32; 15] {
     let stored = ring.stored;
-    Answer {
-        count,
-        figures: [
-            told.reply,
-            numbers::low(ring.place as u64),
-            numbers::low(ring.size as u64),
-            words::bits_of(stored[0]),
-            words::bits_of(stored[1]),
-            words::bits_of(stored[2]),
-            words::bits_of(stored[3]),
-            told.first,
-            told.second,
-            0,
-            0,
-            0,
-            0,
-            0,
-            0,
-            0,
-        ],
-    }
+    let oldest = ring.front();
+    let front = oldest.front;
+    let size = ring.size();
+    let same = ring.equals(aside);
+    [
+        numbers::low(ring.place as u64),
+        numbers::low(ring.size as u64),
+        words::bits_of(stored[0]),
+        words::bits_of(stored[1]),
+        words::bits_of(stored[2]),
+        words::bits_of(stored[3]),
+        numbers::flag(ring.passes()),
+        numbers::low(saturation_protector_buffer::capacity() as u64),
+        oldest.reply,
+        case(front),
+        value(front),
+        size.reply,
+        numbers::low(size.size as u64),
+        same.reply,
+        numbers::flag(same.equal),
+    ]
 }
 
-pub(crate) fn answer(mut desk: Desk, call: Call) -> Step {
-    let ring = desk.ring;
-    let aside = desk.aside;
-    let figures = call.figures;
-    let word = word_of(call.word, call.count);
-    let a = next(ring, word, figures);
+// Leaves a ring's figures on the desk, and answers the reply.
+fn leave(desk: &mut [u32], reply: u32, ring: Ring) -> u32 {
+    let aside = read(desk, ASIDE);
+    let all = shown(ring, aside);
+    figures::put(desk, FROM, &all);
+    reply
+}
+
+// ring.set
+fn set(desk: &mut [u32]) -> u32 {
+    let given = read(desk, ASKED);
+    leave(desk, DONE, given)
+}
+
+// ring.push
+fn push(desk: &mut [u32]) -> u32 {
+    let a = read(desk, FROM).push_back(Dbfs(figures::float(desk, ASKED, 0)));
     let after = a.ring;
-    let kept = aside_after(after, aside, word);
-    desk.ring = after;
-    desk.aside = kept;
-    let answer = said(
-        results(after, kept, word, a.reply),
-        after,
-        numbers::pick(word < NONE, 9, 0),
-    );
-    Step { desk, answer }
+    leave(desk, a.reply, after)
+}
+
+// ring.reset
+fn reset(desk: &mut [u32]) -> u32 {
+    let a = read(desk, FROM).reset();
+    let after = a.ring;
+    leave(desk, a.reply, after)
+}
+
+// ring.keep
+fn keep(desk: &mut [u32]) -> u32 {
+    let ring = read(desk, FROM);
+    let all = shown(ring, ring);
+    figures::put(desk, ASIDE, &all);
+    leave(desk, DONE, ring)
+}
+
+// Answers the question that lies on the desk.
+pub(crate) fn answer(word: u32, desk: &mut [u32]) -> u32 {
+    if word == NEW {
+        leave(desk, DONE, Ring::new())
+    } else if word == SET {
+        set(desk)
+    } else if word == PUSH {
+        push(desk)
+    } else if word == RESET {
+        reset(desk)
+    } else {
+        keep(desk)
+    }
 }

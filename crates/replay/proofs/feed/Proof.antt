@@ -7,10 +7,10 @@ use Rattle.replay.proofs.feed.Statement.{statement}
 use Rattle.replay.proofs.feed.Tie as tie
 
 abbrev Inv-loop : tie.InvT-loop
-Inv-loop input line₀ out₀ kept₀ waiting₀ desk₀ i₀ line out kept waiting desk i = (i ≤ length input) × (length line ≡ length line₀) × (length out ≡ length out₀)
+Inv-loop input line₀ desk₀ out₀ kept₀ waiting₀ i₀ line desk out kept waiting i = (i ≤ length input) × (length line ≡ length line₀) × (length desk ≡ length desk₀) × (length out ≡ length out₀)
 
 abbrev μ-loop : tie.MeasureT-loop
-μ-loop input line₀ out₀ kept₀ waiting₀ desk₀ i₀ line out kept waiting desk i = length input - i
+μ-loop input line₀ desk₀ out₀ kept₀ waiting₀ i₀ line desk out kept waiting i = length input - i
 
 loop-holds : tie.Need-loop-holds Inv-loop μ-loop
 loop-holds c = search needs
@@ -23,12 +23,6 @@ add-i c = search needs
 
 reply-requires : tie.Need-reply-requires Inv-loop μ-loop
 reply-requires c κs = search needs
-
-place-requires : tie.Need-place-requires Inv-loop μ-loop
-place-requires c κs = search needs
-
-put-requires : tie.Need-put-requires Inv-loop μ-loop
-put-requires c κs = search needs
 
 loop-less : tie.Need-loop-less Inv-loop μ-loop
 loop-less c = search needs
@@ -51,6 +45,9 @@ same-length c = search needs
 same-length-2 : tie.Need-same-length-2 Inv-loop μ-loop
 same-length-2 c = search needs
 
+same-length-3 : tie.Need-same-length-3 Inv-loop μ-loop
+same-length-3 c = search needs
+
 returns : tie.Need-returns Inv-loop μ-loop
 returns c = search needs
 
@@ -64,8 +61,6 @@ feed-spec =
     shared-slice-read-byte
     add-i
     reply-requires
-    place-requires
-    put-requires
     loop-less
     loop-again
     keep-requires
@@ -73,4 +68,5 @@ feed-spec =
     loop-again-2
     same-length
     same-length-2
+    same-length-3
     returns)

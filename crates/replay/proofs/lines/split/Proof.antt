@@ -1,16 +1,18 @@
--- `replay::lines::counted` is safe and ends. Assumes nothing.
-use mathlib.Core.Path.{_≡_}
+-- `replay::lines::split` is safe and ends. Assumes nothing.
 use Prim.Native.Nat.{_-_, _≤_}
 use lib.ListN.{length}
 use borrow.Author.Needs.{needs}
-use Rattle.replay.proofs.lines.counted.Statement.{statement}
-use Rattle.replay.proofs.lines.counted.Tie as tie
+use Rattle.replay.proofs.lines.split.Statement.{statement}
+use Rattle.replay.proofs.lines.split.Tie as tie
 
 abbrev Inv-loop : tie.InvT-loop
-Inv-loop line part name ok₀ count₀ at₀ ok count at = Unit {0}
+Inv-loop line name ok₀ count₀ at₀ ok count at = Unit {0}
 
 abbrev μ-loop : tie.MeasureT-loop
-μ-loop line part name ok₀ count₀ at₀ ok count at = length line - at
+μ-loop line name ok₀ count₀ at₀ ok count at = length line - at
+
+first-requires : tie.Need-first-requires Inv-loop μ-loop
+first-requires c κs = search needs
 
 loop-holds : tie.Need-loop-holds Inv-loop μ-loop
 loop-holds c = search needs
@@ -48,12 +50,13 @@ loop-again-2 c = search needs
 returns : tie.Need-returns Inv-loop μ-loop
 returns c = search needs
 
-pub counted-spec : {M : Type 1} → statement M
-counted-spec =
+pub split-spec : {M : Type 1} → statement M
+split-spec =
     tie.close
     (tie.spec
     Inv-loop
     μ-loop
+    first-requires
     loop-holds
     add-read
     read-requires
