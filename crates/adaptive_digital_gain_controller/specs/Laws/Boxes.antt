@@ -1,12 +1,11 @@
 -- In which box each setting, each figure and each field of a state lies, where its test passed.
-use mathlib.Core.Path.{_≡_, refl, sym, ap, _∙_, subst}
+use mathlib.Core.Path.{_≡_, refl}
 use mathlib.Core.Bool.{Bool, true, false, _&&_, _||_, not}
 use Prim.Native.Nat.{ℕ}
-use lib.Dec.{T, leb, eqb}
-use lib.Ieee.{Float, nan, inf, fin, binary32, ofBits, le, lt, eq, fits}
+use lib.Dec.{T}
+use lib.Ieee.{Float, binary32, ofBits, le, lt, eq, fits}
 use lib.Ieee.Scale.{finite}
-use borrow.Author.Tests.{leb-true}
-use Rattle.rounding.specs.Units.{P, N, Number, In}
+use Rattle.rounding.specs.Units.{In}
 use Rattle.rounding.specs.Laws.Order.{between, le-box}
 use Rattle.rounding.specs.Laws.Exact.{constant-number}
 use Rattle.floats.specs.Kinds.{isNegativeZero}

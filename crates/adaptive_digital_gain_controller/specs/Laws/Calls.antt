@@ -1,14 +1,13 @@
 -- Of the calls: states that come out pass, the gain does not rise while a frame is still to come, the applier inside never refuses,
 -- and what is handed on is within 33554432. Of what comes in it is only asked that its floats are f32, which the borrow checker knows.
 use mathlib.Core.Path.{_≡_, refl, sym, ap, ap₂, _∙_, subst}
-use mathlib.Core.Bool.{Bool, true, false, _&&_, cond}
+use mathlib.Core.Bool.{Bool, true, false, _&&_}
 use mathlib.Core.List.{List}
 use Prim.Native.Nat.{ℕ, _<_}
 use native.Mathlib.Omega.{arith}
-use borrow.Author.Tests.{eqb-true, ne-eqb, le-leb}
-use lib.Dec.{T, leb, eqb}
+use borrow.Author.Tests.{ne-eqb, le-leb}
 use lib.ListN.{length}
-use lib.Ieee.{Float, binary32, ofBits, eq, le, fits}
+use lib.Ieee.{Float, le}
 use Rattle.units.specs.Replies.{done, refusal}
 use Rattle.units.specs.Settings as Settings
 use Rattle.units.specs.declared.settings.Settings.{Settings as Set}
@@ -21,19 +20,17 @@ use Rattle.gain_applier.specs.Applier as Applier
 use Rattle.gain_applier.specs.Range.{Held}
 use Rattle.gain_applier.specs.Laws.Again.{equals-itself, starting-passes, arrived-passes, samples-pass}
 use Rattle.gain_applier.specs.Laws.Sound.{applied-within}
-use Rattle.gain_applier.specs.declared.Applier.{Applier as Gainer}
 use Rattle.gain_applier.specs.declared.Next.{Next as Applied}
 use Rattle.adaptive_digital_gain_controller.specs.Change.{perFrame}
-use Rattle.adaptive_digital_gain_controller.specs.Controller.{accepted, largest, passes, nothing, fresh, decided}
+use Rattle.adaptive_digital_gain_controller.specs.Controller.{accepted, passes, fresh, decided}
 use Rattle.adaptive_digital_gain_controller.specs.Calls.{made, with-applier, Processed, processed}
-use Rattle.adaptive_digital_gain_controller.specs.Range.{Gain, HeldSettings, HeldInfo, HeldState, Ready}
-use Rattle.adaptive_digital_gain_controller.specs.Laws.Boxes.{from-to, InSettings, in-settings}
+use Rattle.adaptive_digital_gain_controller.specs.Range.{HeldSettings, HeldInfo, HeldState, Ready}
+use Rattle.adaptive_digital_gain_controller.specs.Laws.Boxes.{in-settings}
 use Rattle.adaptive_digital_gain_controller.specs.Laws.Change.{frame-box}
 use Rattle.adaptive_digital_gain_controller.specs.Laws.Factor.{factor-stays, factor-passes}
-use Rattle.adaptive_digital_gain_controller.specs.Laws.States.{Passed, passing, Sure, gain-waits, applier-sure, decided-ready, initial-passes}
+use Rattle.adaptive_digital_gain_controller.specs.Laws.States.{passing, Sure, gain-waits, applier-sure, decided-ready, initial-passes}
 use Rattle.adaptive_digital_gain_controller.specs.declared.Info.{Info}
 use Rattle.adaptive_digital_gain_controller.specs.declared.Controller.{Controller}
-use Rattle.adaptive_digital_gain_controller.specs.declared.Next.{Next}
 
 -- ---- a new controller
 -- the reply 4 is not 0
@@ -56,16 +53,16 @@ module _ (s : Set) (t : ℕ) (h : HeldSettings s) where
       (record {
         held = record { settings = h; change = y .held; gain = h .initial; last = f .number .held; current = f .number .held };
         state = passing (record { applier = Applier.starting false (answer (s .initial .0) .ratio); settings = s; threshold = t; change = perFrame (s .change); waiting = t; gain = s .initial .0 })
-        (record {
-          settings = a;
-          threshold = and-second (Settings.accepted s) (Settings.threshold t) ok;
-          change = equals-itself (perFrame (s .change)) y;
-          waiting = le-leb t t (omega arith);
-          gain = g;
-          applier = starting-passes false (answer (s .initial .0) .ratio) (p .0);
-          last = p .1;
-          current = p .1;
-        });
+            (record {
+              settings = a;
+              threshold = and-second (Settings.accepted s) (Settings.threshold t) ok;
+              change = equals-itself (perFrame (s .change)) y;
+              waiting = le-leb t t (omega arith);
+              gain = g;
+              applier = starting-passes false (answer (s .initial .0) .ratio) (p .0);
+              last = p .1;
+              current = p .1;
+            });
       })
 
   -- A new controller that is not refused passes, and its floats are f32.

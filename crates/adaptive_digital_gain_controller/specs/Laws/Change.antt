@@ -6,13 +6,13 @@ use mathlib.Core.List.{List, [], _∷_}
 use Prim.Native.Nat.{ℕ, _+_, _-_, _*_, _^_, _≤_, _<_}
 use native.Mathlib.Nat.{mul-le-mul-right}
 use native.Mathlib.Omega.{arith}
-use lib.Dec.{T, ltb, ltb→lt, nltb→le, eqb, lit<, lit≤}
+use lib.Dec.{T, ltb, ltb→lt, nltb→le, lit<, lit≤}
 use borrow.Author.Tests.{eqb-true}
 use lib.IntN.{pos}
 use lib.Ieee.{Float, nan, inf, fin, binary32, ofBits, ofInt, add, sub, mul, div, neg, eq, lt, le, fits, size as bits}
-use Rattle.rounding.specs.Units.{U, size, limit, P, N, Number, Value, In, rnd, Rounding}
+use Rattle.rounding.specs.Units.{U, size, P, N, Number, Value, In, rnd, Rounding}
 use Rattle.rounding.specs.Laws.Rnd.{rnd-zero, err-hi}
-use Rattle.rounding.specs.Laws.Whole.{sides, U-pos}
+use Rattle.rounding.specs.Laws.Whole.{sides}
 use Rattle.rounding.specs.Laws.Order.{le→units, eq-units}
 use Rattle.rounding.specs.Laws.Operations.{add-rounds, sub-rounds, sub-above, neg-value}
 use Rattle.rounding.specs.Laws.Between.{in-real, known}
@@ -23,7 +23,7 @@ use Rattle.intervals.specs.Laws.Interval.{interval}
 use Rattle.intervals.specs.Laws.Choice.{Leq, leq-trans, Greater, Lesser, larger-is, smaller-is}
 use Rattle.adaptive_digital_gain_controller.specs.Change.{perFrame, increase, changed}
 use Rattle.adaptive_digital_gain_controller.specs.Range.{zero, past50, Goal, Gain}
-use Rattle.adaptive_digital_gain_controller.specs.Laws.Boxes.{is-true, from-to, boxed}
+use Rattle.adaptive_digital_gain_controller.specs.Laws.Boxes.{from-to, boxed}
 use Rattle.adaptive_digital_gain_controller.specs.Laws.Target.{zero-value, past-value}
 
 fifty-one-value : Value (ofBits binary32 0x424c_0000) (51 * U) 0

@@ -7,11 +7,9 @@ use Prim.Native.Nat.{ℕ, _+_, _*_, _/_, _%_, _≤_, _<_}
 use native.Mathlib.Nat.{eq-or-lt-of-le, mod-lt}
 use native.Mathlib.Omega.{arith}
 use lib.Dec.{T, leb, le→leb, lit<}
-use lib.ListN.{getD}
 use lib.Ieee.{Float, nan, binary32, ofBits, ofInt, add, sub, mul, neg, le, lt, eq, fits, size as bits}
 use lib.Ieee.Fits.{and-l, and-r}
 use lib.Ieee.Scale.{finite}
-use Rattle.lists.specs.Entries.{every}
 use Rattle.lists.specs.Table.{at}
 use Rattle.rounding.specs.Units.{U, size, P, N, Number, Value, In}
 use Rattle.rounding.specs.Laws.Order.{le-box, le→units, units→le, units→lt}

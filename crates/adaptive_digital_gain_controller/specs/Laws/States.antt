@@ -1,13 +1,11 @@
 -- A state that passes, given accepted figures, decides on a state that passes: its gain lies from 0 to 51, its factor from 1 to 355.
-use mathlib.Core.Path.{_≡_, refl, sym, ap, _∙_, subst}
-use mathlib.Core.Bool.{Bool, true, false, _&&_, cond, false≢true}
-use Prim.Native.Nat.{ℕ, _+_, _-_, _*_, _≤_, _<_}
+use mathlib.Core.Path.{_≡_}
+use mathlib.Core.Bool.{Bool, true, false, _&&_, cond}
+use Prim.Native.Nat.{ℕ, _-_, _≤_, _<_}
 use native.Mathlib.Omega.{arith}
 use borrow.Author.Tests.{leb-true, le-leb, ne-eqb}
 use lib.Dec.{T, leb, ltb, eqb}
 use lib.Ieee.{Float, binary32, ofBits, add, eq, ne, le, lt, fits, size as bits}
-use lib.Ieee.Fits.{add-fits}
-use Rattle.rounding.specs.Units.{P, N, Number, In}
 use Rattle.rounding.specs.Laws.Order.{le→units, units→le}
 use Rattle.rounding.specs.Laws.Exact.{constant-number}
 use Rattle.frames.specs.Facts.{and-first, and-second}
@@ -24,7 +22,7 @@ use Rattle.adaptive_digital_gain_controller.specs.Target.{target}
 use Rattle.adaptive_digital_gain_controller.specs.Change.{perFrame, waits, increase, changed}
 use Rattle.adaptive_digital_gain_controller.specs.Controller.{accepted, largest, passes, aimed, decided}
 use Rattle.adaptive_digital_gain_controller.specs.Calls.{with-applier}
-use Rattle.adaptive_digital_gain_controller.specs.Range.{zero, Goal, Gain, Factor, HeldSettings, HeldInfo, HeldState, Ready}
+use Rattle.adaptive_digital_gain_controller.specs.Range.{zero, Goal, Gain, HeldInfo, HeldState, Ready}
 use Rattle.adaptive_digital_gain_controller.specs.Laws.Boxes.{is-true, from-to, closed-box, InSettings, in-settings, in-figures}
 use Rattle.adaptive_digital_gain_controller.specs.Laws.Target.{target-in-range}
 use Rattle.adaptive_digital_gain_controller.specs.Laws.Change.{Step, change-step, rise-step, frame-box, equal-box, stays, held-down}
@@ -193,14 +191,14 @@ module _ (c : Controller) (i : Info) (h : HeldState c) (k : HeldInfo i) (p : pas
       record {
         held = record { settings = h .settings; change = h .change; gain = gain-stays .number .held; last = s .last; current = s .current };
         state = passing (with-applier (decided c i) b)
-        (record {
-          settings = all .settings;
-          threshold = all .threshold;
-          change = all .change;
-          waiting = waits-most (speech (i .probability)) (c .threshold) (c .waiting) (all .waiting);
-          gain = gain-passes (decided c i .gain) gain-stays;
-          applier = s .state;
-          last = s .small;
-          current = s .next;
-        });
+            (record {
+              settings = all .settings;
+              threshold = all .threshold;
+              change = all .change;
+              waiting = waits-most (speech (i .probability)) (c .threshold) (c .waiting) (all .waiting);
+              gain = gain-passes (decided c i .gain) gain-stays;
+              applier = s .state;
+              last = s .small;
+              current = s .next;
+            });
       }

@@ -1,15 +1,15 @@
 -- The target of a frame is a number from 0 to the f32 next above 50. It can be that one, though no setting is above 50: the sum of headroom
 -- and largest gain is rounded before the level is compared with it.
-use mathlib.Core.Path.{_≡_, refl, sym, ap, ap₂, _∙_, subst}
+use mathlib.Core.Path.{_≡_, refl, ap, _∙_, subst}
 use mathlib.Core.Logic.{_⊎_, inl, inr}
 use mathlib.Core.Bool.{Bool, true, false, _||_, not, cond}
 use mathlib.Core.List.{List, [], _∷_}
 use Prim.Native.Nat.{ℕ, _+_, _-_, _*_, _^_, _≤_, _<_}
-use native.Mathlib.Nat.{sub-zero, zero-sub, lt-of-le-of-lt}
+use native.Mathlib.Nat.{zero-sub, lt-of-le-of-lt}
 use native.Mathlib.Omega.{arith}
 use lib.Dec.{T, lit<}
 use lib.Ieee.{Float, binary32, ofBits, add, sub, neg, le, lt, eq, fits, size as bits}
-use Rattle.rounding.specs.Units.{U, size, limit, P, N, Number, Value, In, rnd, Rounding}
+use Rattle.rounding.specs.Units.{U, size, P, N, Number, Value, In, rnd}
 use Rattle.rounding.specs.Laws.Rnd.{rnd-zero, under-hi}
 use Rattle.rounding.specs.Laws.Whole.{sides}
 use Rattle.rounding.specs.Laws.Order.{lt→units, not-lt→units}
@@ -18,15 +18,15 @@ use Rattle.rounding.specs.Laws.Between.{in-real, known}
 use Rattle.rounding.specs.Laws.Exact.{constant-number}
 use Rattle.floats.specs.Choice.{larger, smaller}
 use Rattle.floats.specs.Kinds.{isNegativeZero}
-use Rattle.intervals.specs.Interval.{Expr, variable, constant, sum, difference, eval, Box, box, bounded, Boxed} 
+use Rattle.intervals.specs.Interval.{Expr, variable, constant, sum, difference, eval, Box, box, bounded, Boxed}
 use Rattle.intervals.specs.Interval as I
 use Rattle.intervals.specs.Laws.Interval.{interval}
 use Rattle.units.specs.Settings as Settings
 use Rattle.units.specs.declared.settings.Settings.{Settings as Set}
 use Rattle.adaptive_digital_gain_controller.specs.Target.{wanted, underNoise, loud, underEnvelope, target}
 use Rattle.adaptive_digital_gain_controller.specs.Controller.{accepted}
-use Rattle.adaptive_digital_gain_controller.specs.Range.{zero, past50, Goal, Gain, HeldSettings, HeldInfo}
-use Rattle.adaptive_digital_gain_controller.specs.Laws.Boxes.{from-to, boxed, InSettings, in-settings, InFigures, in-figures}
+use Rattle.adaptive_digital_gain_controller.specs.Range.{zero, past50, Goal, Gain}
+use Rattle.adaptive_digital_gain_controller.specs.Laws.Boxes.{from-to, boxed, InSettings, InFigures}
 use Rattle.adaptive_digital_gain_controller.specs.declared.Info.{Info}
 
 -- ---- the ends, in units: an f32 between 64 and 128 is a multiple of 2 * gap

@@ -132,7 +132,7 @@ fuller s w l r p v left n h small k m q off =
         let g5 : 60000 * v * o ≤ Q * o = mul-le-mul-right o some in
         omega arith
 
--- ---- An average that passes, with a frame of accepted rms and accepted speech probability more, passes again.
+-- What an average that passes has passed, it has with a frame more whose level is accepted and whose probability is accepted and speech.
 pub advanced-passed : (a : Average) (r p : Float) → Passed a → T (fits binary32 r) → T (fits binary32 p) → T (rms r) → T (probability p) → T (speech p) → Passed (advanced r p a)
 unfolding advanced
 advanced-passed a r p h f g loudness likely spoken =
@@ -148,10 +148,11 @@ advanced-passed a r p h f g loudness likely spoken =
     still : (n : ℕ) → n % 10 ≡ 0 → (n - 10) % 10 ≡ 0
     still n i = omega arith
 
+-- An average that passes, advanced by an accepted rms and an accepted probability that is speech, passes again.
 pub advanced-passes : (a : Average) (r p : Float) → Held a → T (fits binary32 r) → T (fits binary32 p)
     → passes a ≡ true → rms r ≡ true → probability p ≡ true → speech p ≡ true → passes (advanced r p a) ≡ true
 advanced-passes a r p held f g h i j k = passing (advanced r p a) (advanced-passed a r p (passed a held h) f g (holds i) (holds j) (holds k))
 
--- And its numbers are f32.
+-- The numbers of an average that passes so are f32.
 pub passed-held : (a : Average) → Passed a → Held a
 passed-held a h = record { sum = h .sum .held; weight = h .weight .number .held }

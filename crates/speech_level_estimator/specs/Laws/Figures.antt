@@ -39,6 +39,7 @@ least-units : (60000 * u ≤ P least-speech) × (N least-speech ≡ 0)
 unfolding P N size U u ofBits
 least-units = (lit≤ tt, refl)
 
+-- An accepted probability that is speech is such a number.
 pub chance : (p : Float) → T (fits binary32 p) → T (speech p) → T (probability p) → Chance p
 chance p f s t =
     let o = one-value in
@@ -80,6 +81,7 @@ below-at-most x y t = go (lt x y) t
     go true k = tt
     go false k = absurd k
 
+-- An accepted rms is such a number.
 pub loud : (r : Float) → T (fits binary32 r) → T (rms r) → Loud r
 loud r f t =
     let a = below-at-most lowest r (and-l (lt lowest r) (lt r highest) t) in
@@ -117,6 +119,7 @@ leak-units : (N leakFactor ≡ 0) × (U ≤ 2 * P leakFactor) × (P leakFactor �
 unfolding P N size U ofBits
 leak-units = (refl, lit≤ tt, lit≤ tt, lit≤ tt)
 
+-- With no time left the leak is 1 - 1/400, and otherwise 1: it is such a number.
 pub leaks : (left : ℕ) → left ≤ 400 → left % 10 ≡ 0 → Leak (leak left) left
 leaks left small tens = go (eqb left 0) refl
   where

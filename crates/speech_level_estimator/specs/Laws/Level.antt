@@ -70,6 +70,7 @@ real-number nan n = absurd (n .real)
 real-number (inf s) n = absurd (n .real)
 real-number (fin s m e) n = tt
 
+-- The level lies from -90 to 30: it is clamped, and no NaN.
 pub level-in : (a : Average) → Passed a → In lowest highest (level a)
 unfolding level
 level-in a h =
@@ -144,11 +145,11 @@ starting-level-in s f t =
     rw (begun-low, begun-high) at
     (interval (fifty ∷ fifty ∷ []) xs (boxed (s .initial .0) (f .initial) (k .1), (boxed (s .headroom .0) (f .headroom) (k .0), tt)) begun begun-bounded .inside)
 
--- a number from -90 to -20 is one from -90 to 30
 last-value : Value last 0 (20 * U)
 unfolding P N size U ofBits
 last-value = record { number = constant-number 0xc1a0_0000 tt; plus = refl; minus = refl }
 
+-- What lies from -90 to -20 lies from -90 to 30.
 pub wider : (x : Float) → In lowest last x → In lowest highest x
 wider x i = record { number = i .number; above = i .above; below = further (P x) (N x) (P last) (N last) (P highest) (N highest) U (last-value .plus) (last-value .minus) (highest-value .plus) (highest-value .minus) (i .below) }
   where
@@ -200,5 +201,6 @@ starting-passed x i =
     within p n a b c d e o (inl z) i j k l m x y = omega arith
     within p n a b c d e o (inr z) i j k l m x y = omega arith
 
+-- An average that starts with the level that accepted settings give passes.
 pub starting-passes : (s : Settings) → HeldSettings s → accepted s ≡ true → passes (starting (startingLevel s)) ≡ true
 starting-passes s f h = passing (starting (startingLevel s)) (starting-passed (startingLevel s) (wider (startingLevel s) (starting-level-in s f (holds h))))

@@ -11,41 +11,46 @@ use Rattle.rounding.specs.Units.{U, limit, P, N, Number, Value, rnd, Rounding}
 use Rattle.rounding.specs.Laws.Rnd.{rnd-mono, rnd-exact, rnd-zero, under-hi, under-lo}
 use Rattle.rounding.specs.Laws.Whole.{limit-pos}
 
--- the size of the steps of an f32 from 256 to 512 is 2 u, and U is 65536 u
+-- half of the step between two f32 from 256 to 512
 unfoldable pub u : ℕ
 u = 2 ^ 133
 
+-- u is above 0.
 pub u-pos : 0 < u
 unfolding u
 u-pos = lit< tt
 
+-- 1 is 65536 u.
 pub U-is : U ≡ 65536 * u
 unfolding U u
 U-is = refl
 
+-- a whole number of 24 digits stays
 kept : (b : ℕ) → b < 2 ^ 24 → rnd (b * U) 1 ≡ b * U
 unfolding U
 kept b few = ap (λ (z : ℕ). rnd z 1) (sym (mul-one (b * 2 ^ 149))) ∙ rnd-exact b 149 1 (lit< tt) few
 
--- what is at most b rounds to at most b
+-- What is at most b rounds to at most b.
 pub rnd-most : (a v b : ℕ) → 0 < v → b < 2 ^ 24 → a ≤ b * U * v → rnd a v ≤ b * U
 rnd-most a v b C few h =
     le-trans (rnd-mono a v (b * U) 1 C (lit< tt) (le-trans (le-of-eq (mul-one a)) h)) (le-of-eq (kept b few))
 
--- the errors below 131072, and below 512
+-- Below 131072 a rounding is at most 256 u too large,
 pub large-hi : (a v : ℕ) → 0 < v → a < 131072 * U * v → 2 * (rnd a v * v) ≤ 2 * a + v * (512 * u)
 unfolding U u
 large-hi a v C h = under-hi 142 a v C h
 
+-- below 512 at most u too large,
 pub small-hi : (a v : ℕ) → 0 < v → a < 512 * U * v → 2 * (rnd a v * v) ≤ 2 * a + v * (2 * u)
 unfolding U u
 small-hi a v C h = under-hi 134 a v C h
 
+-- and at most u too small.
 pub small-lo : (a v : ℕ) → 0 < v → a < 512 * U * v → 2 * a ≤ 2 * (rnd a v * v) + v * (2 * u)
 unfolding U u
 small-lo a v C h = under-lo 134 a v C h
 
--- ---- the magnitude of a rounding
+-- the magnitude of a rounding is at most the rounding of the magnitude
 split : (p n v : ℕ) → 0 < v → rnd (p - n) v + rnd (n - p) v ≤ rnd (p + n) v
 split p n v C = go (leb p n) (leb→le p n) (nleb→lt p n)
   where
@@ -75,6 +80,7 @@ room : (b : ℕ) → b < 2 ^ 24 → b * U < limit
 unfolding U limit
 room b h = lt-of-lt-of-le (mul-lt-mul-of-pos-right h (lit< tt)) (lit≤ tt)
 
+-- What is rounded from a value of magnitude at most b is near.
 pub near : (r : Float) (p n v b : ℕ) → 0 < v → b < 2 ^ 24 → Rounding r p n v → p + n ≤ b * U * v → Near r (p + n) v b
 near r p n v b C few h e =
     let both = split p n v C in
@@ -85,7 +91,7 @@ near r p n v b C few h e =
     let minus = x .minus in
     record { number = x .number; most = omega arith; under = omega arith }
 
--- of a value that is not below zero
+-- What is rounded from a value that is not below zero has the units that it rounds to, and none below zero.
 pub above : (r : Float) (a v b : ℕ) → 0 < v → b < 2 ^ 24 → Rounding r a 0 v → a ≤ b * U * v → Value r (rnd a v) 0
 above r a v b C few h e =
     let top = rnd-most a v b C few e in

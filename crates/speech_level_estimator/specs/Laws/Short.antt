@@ -39,9 +39,11 @@ accepted-updates e f h a = rw (h, a .inside) refl
 pub accepted-run : (e : Estimator) (f : Pair) → passes e ≡ true → Accepted f → run (fedOne e f) ≡ framed (speech (f .probability)) (Average.advanced (f .rms) (f .probability)) (e .threshold) (run e)
 accepted-run e f h a = rw (accepted-updates e f h a) (unfold updated in refl)
 
+-- The threshold stays.
 pub accepted-threshold : (e : Estimator) (f : Pair) → passes e ≡ true → Accepted f → fedOne e f .threshold ≡ e .threshold
 accepted-threshold e f h a = rw (accepted-updates e f h a) (unfold updated in refl)
 
+-- The estimator still passes, and its numbers are f32.
 pub accepted-ready : (e : Estimator) (f : Pair) → Ready e → Accepted f → Ready (fedOne e f)
 accepted-ready e f h a =
     let d = accepted-done e f (h .passes) a in
@@ -51,16 +53,19 @@ accepted-ready e f h a =
     }
 
 -- ---- accepted frames one after the other
+-- After them the estimator still passes,
 pub fed-ready : (e : Estimator) (fs : List Pair) → Ready e → Each Accepted fs → Ready (fed e fs)
 unfolding fed Each
 fed-ready e [] h a = h
 fed-ready e (f ∷ fs) h a = fed-ready (fedOne e f) fs (accepted-ready e f h (a .0)) (a .1)
 
+-- its threshold is what it was,
 pub fed-threshold : (e : Estimator) (fs : List Pair) → Ready e → Each Accepted fs → fed e fs .threshold ≡ e .threshold
 unfolding fed Each
 fed-threshold e [] h a = refl
 fed-threshold e (f ∷ fs) h a = fed-threshold (fedOne e f) fs (accepted-ready e f h (a .0)) (a .1) ∙ accepted-threshold e f (h .passes) (a .0)
 
+-- and its two states and its count are those of the run.
 pub fed-run : (e : Estimator) (fs : List Pair) → Ready e → Each Accepted fs → run (fed e fs) ≡ after (e .threshold) (run e) (frames fs)
 unfolding fed frames after Each
 fed-run e [] h a = refl

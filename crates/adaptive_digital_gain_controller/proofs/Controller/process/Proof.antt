@@ -2,13 +2,11 @@
 -- Assumes nothing.
 use mathlib.Core.Path.{_≡_, sym, ap, _∙_}
 use mathlib.Core.Bool.{Bool, true}
-use mathlib.Core.List.{List}
 use lib.ListN.{length}
-use lib.Ieee.{Float}
 use Rattle.units.specs.Replies.{refusal}
 use Rattle.frames.specs.Shape.{isShape}
 use Rattle.adaptive_digital_gain_controller.specs.Controller.{accepted, passes}
-use Rattle.adaptive_digital_gain_controller.specs.Calls.{with-applier, Processed, processed}
+use Rattle.adaptive_digital_gain_controller.specs.Calls.{with-applier, Processed}
 use Rattle.adaptive_digital_gain_controller.specs.Range.{HeldInfo, HeldState}
 use Rattle.adaptive_digital_gain_controller.specs.Laws.Calls.{refused-early, accepted-late, refused-late}
 use denote.Floats.{passes as passed-test}
@@ -28,7 +26,7 @@ told : (p : tie.After-refusal)
     ≡ refusal (isShape (start-of p .args .channels) (start-of p .args .samples) (length (start-of p .args .frame .now))) (passes (start-of p .args .self)) (accepted (start-of p .args .info)) true
 told p = p .refusal .ensures ∙ tests (p .before .before .before .is-shape .ensures) (p .before .before .passes .ensures) (p .before .accepted .ensures)
 
--- the floats of what comes in are f32
+-- the floats of what comes in are f32; the search does not go so deep as the last of the settings
 state-held : (s : tie.Start) → HeldState (s .args .self)
 state-held s =
     record {

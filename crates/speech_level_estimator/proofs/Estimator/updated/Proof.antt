@@ -68,7 +68,11 @@ returns c =
     let t = p .before .before .before in
     let a = t .before .before .before .before .before .args in
     built (a .self) (a .rms) (a .probability) (t .step .result) (p .pick-average2 .result) (c .before .before .before .pick-average3 .result) (c .before .pick-f32 .result) (c .is-trusted .result)
-    (cc) (cc) (cc) (cc) (cc)
+    (rw (t .step .ensures, t .before .is-speech .ensures))
+    (rw (p .pick-average2 .ensures, t .before .is-speech .ensures, p .before .before .advanced .ensures, p .before .pick-average .ensures))
+    (c .before .before .before .pick-average3 .ensures)
+    (rw (c .before .pick-f32 .ensures, c .before .before .level .ensures))
+    (c .is-trusted .ensures)
 
 pub updated-spec : {M : Type 1} → statement M
 updated-spec =
