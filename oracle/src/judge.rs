@@ -350,13 +350,13 @@ fn runs(judge: &mut dyn Judge, threshold: u32, frames: usize, source: &mut Rando
     while going && judge.tally().frames() < wanted {
         // Whatever the state that goes on: that of another threshold may have been handed in.
         let t = judge.threshold();
-        let length = match source.up_to(15) {
-            0..=3 => t - 1,
-            4..=7 => t,
-            8..=11 => t + 1,
-            12 | 13 => source.up_to(2 * t + 2),
-            14 => t + source.up_to(90),
-            _ => t + source.up_to(600),
+        let length = match source.up_to(63) {
+            0 => t + source.up_to(600),
+            1..=3 => t + source.up_to(90),
+            4..=9 => source.up_to(2 * t + 2),
+            10..=27 => t - 1,
+            28..=45 => t,
+            _ => t + 1,
         };
         let pause = match source.up_to(7) {
             0..=5 => 1,
