@@ -141,6 +141,12 @@ const NAMES: [&str; 15] = [
     "num_adjacent_speech_frames",
 ];
 
+/// A weight whose product with 151 is no f32, the f32 next above that product, which is also the nearest,
+/// and the one below.
+const WEIGHT: u32 = 0x3f80_0003;
+const OVER: u32 = 0x4317_0004;
+const UNDER: u32 = 0x4317_0003;
+
 /// Whether the Rust's estimator has this state: all of it but for the settings.
 fn is_shown(state: &State, other: &ruled::SpeechLevelEstimator) -> bool {
     let mut ours = state.figures().split_off(6);
@@ -374,6 +380,12 @@ impl Judge for Desk {
         let speech = 1.0_f32.to_bits();
         RMS.ends.iter().chain(RMS.wrong).all(|&rms| self.update(rms, speech, to) && self.update(rms, 0, to))
             && PROBABILITY.ends.iter().chain(PROBABILITY.wrong).all(|&p| self.update((-30.0_f32).to_bits(), p, to))
+            && [UNDER, UNDER | 1 << 31].iter().all(|&sum| {
+                let mut state = State::new(Settings::USUAL, 1);
+                state.preliminary.sum = f32::from_bits(sum);
+                state.preliminary.weight = f32::from_bits(WEIGHT);
+                self.set(state, to) && self.update(0x4247_ffff, speech, to)
+            })
     }
 
     fn each_setting(&mut self, source: &mut Random, to: Ask) -> bool {
@@ -423,8 +435,9 @@ impl Judge for Desk {
             (390, 0.0, f32::INFINITY),
             (400, 151.00002, 1.0),
             (400, -151.00002, 1.0),
-            // 151 times this weight is no f32: the sum is the next one above it.
-            (0, 151.00003, 1.0000001),
+            // 151 times this weight is no f32: the sum is that product rounded, and so above it.
+            (0, f32::from_bits(OVER), f32::from_bits(WEIGHT)),
+            (0, -f32::from_bits(OVER), f32::from_bits(WEIGHT)),
             (400, f32::NAN, 1.0),
             (400, f32::NEG_INFINITY, 1.0),
         ];
