@@ -57,6 +57,34 @@ same "replay: more samples than a frame can have are no question" "?" "$(frame a
 same "replay: before new every figure is 0, which no state passes" 00000004 \
     "$(frame applier.apply 1 480 | replay | cut -d' ' -f1)"
 
+usual="40a00000 42480000 41700000 40c00000 c2480000"
+
+same "replay: 40 speech frames push no peak, the 41st pushes (the preliminary ring's size)" "00000000 00000001" \
+    "$({ echo protector.new 41a00000 00000001; yes 'protector.analyze 3f800000 c0a00000 c1f00000' | head -n 41; } | replay | tail -n 2 | cut -d' ' -f8 | paste -sd' ')"
+
+same "replay: 39 speech frames are not trusted, the 40th is" "00000000 00000001" \
+    "$({ echo "speech.new $usual 00000001"; yes 'speech.update c2200000 3f800000' | head -n 40; } | replay | tail -n 2 | cut -d' ' -f16 | paste -sd' ')"
+
+# T is 2, and the level starts at -40. A NaN is refused with 2 and does not end the run.
+same "replay: a run of 1 is thrown away, a refused frame is not counted, a run of 2 publishes (reply, level, count)" \
+    "[00000000 c2200000 00000001] [00000000 c2200000 00000000] [00000000 c2200000 00000001] [00000002 c2200000 00000001] [00000000 c1d63cbf 00000002]" \
+    "$({ echo "speech.new $usual 00000002"; printf 'speech.update %s\n' 'c1200000 3f800000' 'c2200000 3f733332' 'c1a00000 3f733333' '7fc00000 00000000' 'c1a00000 3f800000'; } | replay | sed 1d | cut -d' ' -f1,15,17 | sed 's/.*/[&]/' | paste -sd' ')"
+
+# A frame of so many samples at 1 for the controller, as some channels of 480, with nothing to boost.
+known() { # CHANNELS SAMPLES
+    printf 'controller.process %08x 000001e0 3f800000 00000000 00000001 c2b40000 41a00000 c2b40000' "$1"
+    [ "$2" -eq 0 ] || yes ' 3f800000' | head -n "$2" | tr -d '\n'
+    echo
+}
+flat="controller.new 40a00000 42480000 00000000 40c00000 c2480000 00000001"
+same "replay: the controller leaves the largest frame at 0 dB: 3840 samples and both factors" 3842 \
+    "$({ echo "$flat"; known 8 3840; } | ones)"
+same "replay: the controller refuses a frame one sample short with 1" 00000001 \
+    "$({ echo "$flat"; known 8 3839; } | replay | tail -n 1 | cut -d' ' -f1)"
+same "replay: the controller refuses a frame of no sample with 1" 00000001 \
+    "$({ echo "$flat"; known 1 0; } | replay | tail -n 1 | cut -d' ' -f1)"
+same "replay: more samples than the controller's frame can have are no question" "?" "$(known 8 3841 | replay)"
+
 same "replay: an empty line is no question" "?" "$(echo | replay)"
 
 same "replay: a line that is cut is no question" "[$ten] [?]" "$(printf 'ratio 41a00000\nratio 41a0' | answers)"

@@ -9,7 +9,7 @@ use crate::sound::{self, field, is_samples, Frame, Player, Tally};
 use sonora_ruled::gain_applier::GainApplier as Published;
 
 /// "Samples into controller or applier: magnitude to 65536".
-const LARGEST: f32 = 65536.0;
+pub const LARGEST: f32 = 65536.0;
 
 /// "gain factor: above 0, below 512".
 fn is_factor(x: f32) -> bool {
@@ -47,24 +47,24 @@ const ONE: u32 = 0x3f80_0000;
 const FIVE: u32 = 0x40a0_0000;
 
 #[derive(Clone, Copy, Default)]
-struct State {
-    clip: bool,
-    last: f32,
-    current: f32,
-    samples: i32,
-    inverse: f32,
+pub struct State {
+    pub clip: bool,
+    pub last: f32,
+    pub current: f32,
+    pub samples: i32,
+    pub inverse: f32,
 }
 
 impl State {
     /// Both factors in range, samples a shape's or -1, "inverse as its rule gives it".
-    fn passes(&self) -> bool {
+    pub fn passes(&self) -> bool {
         is_factor(self.last)
             && is_factor(self.current)
             && (self.samples == -1 || is_samples(self.samples as u32))
             && self.inverse == 1.0 / self.samples as f32
     }
 
-    fn figures(&self) -> [u32; 5] {
+    pub fn figures(&self) -> [u32; 5] {
         [
             self.clip as u32,
             bits(self.last),
@@ -74,7 +74,7 @@ impl State {
         ]
     }
 
-    fn of(other: &Published) -> Option<State> {
+    pub fn of(other: &Published) -> Option<State> {
         let text = format!("{:?}", other);
         Some(State {
             clip: field(&text, "hard_clip_samples")?,
@@ -88,7 +88,7 @@ impl State {
 
 /// The Rust's applier with this state: made at the last factor, sent over silence for its samples, and
 /// given the current factor.
-fn published(state: &State) -> Option<Published> {
+pub fn published(state: &State) -> Option<Published> {
     if !state.passes() {
         return None;
     }

@@ -3,13 +3,13 @@
 //! this program writes them.
 
 use crate::drive::Pair;
-use crate::{applier, curve, estimator, limiter, ratio, ring};
+use crate::{applier, controller, curve, estimator, limiter, protector, ratio, ring, speech};
 
 /// The seed of the list's random questions.
 const SEED: u64 = 1;
 
 /// Lines that are no question: each is answered ?.
-const NOT_ASKED: [&str; 47] = [
+const NOT_ASKED: [&str; 56] = [
     "",
     " ",
     ".",
@@ -57,6 +57,15 @@ const NOT_ASKED: [&str; 47] = [
     "applier.new 00000000",
     "limiter.process 00000001",
     "limiter.set 00000000",
+    "speech",
+    "speech.update c2200000",
+    "speech.update c2200000 3f800000 3f800000",
+    "speech.new 40a00000 42480000 41700000 40c00000 c2480000",
+    "protector.analyze 3f800000 c1a00000",
+    "protector.new 41a00000",
+    "controller.new 40a00000 42480000 41700000 40c00000 c2480000",
+    "controller.process 00000001 00000028",
+    "controller.process 00000001 00000028 3f800000 c2200000 00000001 c2b40000 41a00000",
 ];
 
 /// The questions with their answers. The last line is cut: it has no line feed.
@@ -73,6 +82,9 @@ fn list() -> Result<Vec<Pair>, String> {
     unlike.extend(estimator::list(SEED, &mut to));
     unlike.extend(applier::list(SEED, &mut to));
     unlike.extend(limiter::list(SEED, &mut to));
+    unlike.extend(speech::list(SEED, &mut to));
+    unlike.extend(protector::list(SEED, &mut to));
+    unlike.extend(controller::list(SEED, &mut to));
     for line in NOT_ASKED {
         to(line.to_string(), "?".to_string());
     }

@@ -9,16 +9,20 @@
 //! its lines in `parts` and in list.rs.
 
 mod applier;
+mod controller;
 mod curve;
 mod drive;
 mod estimator;
+mod judge;
 mod limiter;
 mod lines;
 mod list;
+mod protector;
 mod random;
 mod ratio;
 mod ring;
 mod sound;
+mod speech;
 
 use drive::Part;
 use std::process::exit;
@@ -78,6 +82,9 @@ fn parts(seed: u64, long: bool) -> Vec<Box<dyn Part>> {
         Box::new(estimator::Estimators::new(seed, long)),
         Box::new(applier::Appliers::new(seed, long)),
         Box::new(limiter::Limiters::new(seed, long)),
+        Box::new(speech::Speeches::new(seed, long)),
+        Box::new(protector::Protectors::new(seed, long)),
+        Box::new(controller::Controllers::new(seed, long)),
     ]
 }
 

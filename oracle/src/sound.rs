@@ -288,7 +288,7 @@ pub fn each_place(player: &mut dyn Player, samples: u32, parts: &[u32], source: 
 
 /// The damaged forms of a good frame: wrong lengths, channels and samples, and samples that are no
 /// number, infinite or too large, at the first and the last place.
-fn damaged(good: &Frame, bound: f32) -> Vec<Frame> {
+pub fn damaged(good: &Frame, bound: f32) -> Vec<Frame> {
     let mut all = Vec::new();
     let length = good.data.len();
     for size in [0, 1, length - 1, length - good.samples as usize, length / 2] {

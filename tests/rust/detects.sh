@@ -15,7 +15,7 @@ digit() { # PLACE LINE LONGER
     echo "awk -v at=$1 'NR > $2 && length(\$0) > $3 && !done { done = 1; new = substr(\$0, at, 1) == \"0\" ? \"1\" : \"0\"; \$0 = substr(\$0, 1, at - 1) new substr(\$0, at + 1) } { print }'"
 }
 
-for part in ratio ring curve estimator applier limiter; do
+for part in ratio ring curve estimator applier limiter speech protector controller; do
     refusal=2
     case $part in estimator | limiter) refusal=3 ;; esac
     same "$part: the comparison finds nothing where nothing is altered" 0 "$(through "$part" cat)"
@@ -33,6 +33,22 @@ same "estimator: it finds an envelope value that is altered" 1 "$(through estima
 same "applier: it finds a remembered gain that is altered" 1 "$(through applier "$(digit 17 400 600)")"
 same "limiter: it finds a carried factor that is altered" 1 "$(through limiter "$(digit 17 400 600)")"
 same "limiter: it finds a count that is altered" 1 "$(through limiter "$(digit 62 400 600)")"
+# The last digit of a figure that is shown: each is nine characters, and the reply is the first.
+figure() { # NUMBER LINE LONGER
+    digit $((9 * $1 + 8)) "$2" "$3"
+}
+same "speech: it finds a sum that is altered" 1 "$(through speech "$(figure 9 400 60)")"
+same "speech: it finds a weight that is altered" 1 "$(through speech "$(figure 10 400 60)")"
+same "speech: it finds a level that is altered" 1 "$(through speech "$(figure 14 400 60)")"
+same "speech: it finds a confidence that is altered" 1 "$(through speech "$(figure 15 400 60)")"
+same "speech: it finds a count that is altered" 1 "$(through speech "$(figure 16 400 60)")"
+same "protector: it finds a headroom that is altered" 1 "$(through protector "$(figure 4 400 60)")"
+same "protector: it finds a stored peak that is altered" 1 "$(through protector "$(figure 8 400 60)")"
+same "protector: it finds a time that is altered" 1 "$(through protector "$(figure 13 400 60)")"
+same "controller: it finds a factor that is altered" 1 "$(through controller "$(figure 3 400 400)")"
+same "controller: it finds a waiting count that is altered" 1 "$(through controller "$(figure 13 400 400)")"
+same "controller: it finds a gain that is altered" 1 "$(through controller "$(figure 14 400 400)")"
+same "controller: it finds a sample that is altered in its last place" 1 "$(through controller "$(figure 36 400 400)")"
 same "the comparison finds that nothing is answered" 1 "$(through ratio 'cat >/dev/null')"
 same "the comparison finds that the program fails" 1 "$(through ratio 'cat; exit 3')"
 same "the comparison finds that the program takes no question" 1 "$(through curve 'true')"
@@ -54,3 +70,21 @@ same "a source without the power that is to be replaced is refused" 1 "$(prepare
 cp "$source/common.rs" "$room/source" && chmod u+w "$room/source/common.rs"
 grep -h '(1.0 - t).powf(p)' "$source/limiter.rs" >>"$room/source/limiter.rs"
 same "a source with that power twice is refused" 1 "$(prepared)"
+
+# The Rust itself is compared, and not only what the oracle has by hand: a slip in each of the parts that
+# judge, in the Rust that the oracle is built over, is found.
+cp "$source"/*.rs "$room/source" && chmod -R u+w "$room/source"
+slip() { # FILE OLD NEW
+    sed -i "s/$2/$3/" "$room/source/$1.rs"
+    if cmp -s "$source/$1.rs" "$room/source/$1.rs"; then echo "not ok there is no '$2' in $1.rs"; fi
+}
+slip speech_level_estimator 'speech_probability < VAD' 'speech_probability <= VAD'
+slip saturation_protector 'time_since_push_ms > PEAK' 'time_since_push_ms >= PEAK'
+slip adaptive_digital_gain_controller 'first_confident_speech_frame = self.frames_to_gain_increase_allowed == 0' 'first_confident_speech_frame = false'
+mkdir "$room/other" && cp -r oracle "$room/other"
+SONORA_SRC=$room/source "$room/other/oracle/build" >/dev/null 2>&1
+slipped() { "$room/other/target/oracle/oracle" compare --only "$1" --short -- tests/run-program replay >/dev/null 2>&1; echo $?; }
+for part in speech protector controller; do
+    same "$part: it finds a slip in the Rust" 1 "$(slipped "$part")"
+done
+same "ratio: where the Rust has no slip, it finds none" 0 "$(slipped ratio)"

@@ -32,7 +32,7 @@ const FACTOR: u32 = 17;
 pub const APPLY: u32 = 18;
 
 // The applier whose figures stand at a place.
-fn read(all: &[u32], from: usize) -> Applier {
+pub(crate) fn read(all: &[u32], from: usize) -> Applier {
     Applier {
         clip: figures::flag(all, from, 0),
         last: figures::float(all, from, 1),

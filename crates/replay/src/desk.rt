@@ -12,12 +12,14 @@
 // figure of it is 0.
 //
 // A frame is asked about by NAME CHANNELS SAMPLES and then any number of sample figures up to 3840, so
-// that frames of a wrong length can be asked about too.
+// that frames of a wrong length can be asked about too. The controller has six more figures before the
+// samples.
 //
 // The desk is figures in a row: those of the question, how many results there are, the results, and
 // then each part's state with what is shown behind it, as it is answered.
 
 use crate::applier;
+use crate::controller;
 use crate::curve;
 use crate::estimator;
 use crate::figures;
@@ -25,8 +27,10 @@ use crate::limits;
 use crate::lines;
 use crate::lines::Asked;
 use crate::numbers;
+use crate::protector;
 use crate::ratio;
 use crate::ring;
+use crate::speech;
 use std::num::wrapping_add_usize;
 
 // Where the figures of the question stand, and how many there are at most but for samples.
@@ -43,13 +47,13 @@ pub const TOLD: usize = 33;
 pub const NO_QUESTION: u32 = 4294967295;
 
 // The number of a line's name, in the list of all names. Before each name stands how many figures it
-// takes, as a digit in which a is 10, or a star where it takes a frame. A line that is no name with
-// its figures has the number after the last.
+// takes, as a digit in which a is 10, or a star where it takes a frame, or a plus where it takes one with
+// six figures more. A line that is no name with its figures has the number after the last.
 fn word_of(line: &[u8], asked: Asked) -> u32 {
     lines::number_of(
         line,
         asked,
-        b"1ratio 0ring.new 6ring.set 1ring.push 0ring.reset 0ring.keep 0curve.new ccurve.set 1curve.level 0curve.stats 1estimator.new 3estimator.set 1estimator.samples 0estimator.reset *estimator.level 2applier.new 5applier.set 1applier.factor *applier.apply 1limiter.new glimiter.set 1limiter.samples 0limiter.reset *limiter.process ",
+        b"1ratio 0ring.new 6ring.set 1ring.push 0ring.reset 0ring.keep 0curve.new ccurve.set 1curve.level 0curve.stats 1estimator.new 3estimator.set 1estimator.samples 0estimator.reset *estimator.level 2applier.new 5applier.set 1applier.factor *applier.apply 1limiter.new glimiter.set 1limiter.samples 0limiter.reset *limiter.process 6speech.new gspeech.set 2speech.update 0speech.reset 2protector.new mprotector.set 3protector.analyze 0protector.reset 6controller.new econtroller.set +controller.process ",
     )
 }
 
@@ -83,17 +87,46 @@ fn place_of(word: u32) -> Place {
             from: applier::FROM,
             size: applier::SHOWN,
         }
-    } else {
+    } else if word < speech::FIRST {
         Place {
             from: limits::FROM,
             size: limits::SHOWN,
+        }
+    } else if word < protector::FIRST {
+        Place {
+            from: speech::FROM,
+            size: speech::SHOWN,
+        }
+    } else if word < controller::FIRST {
+        Place {
+            from: protector::FROM,
+            size: protector::SHOWN,
+        }
+    } else {
+        Place {
+            from: controller::FROM,
+            size: controller::SHOWN,
         }
     }
 }
 
 // Whether a name asks about a frame.
 fn is_sound(word: u32) -> bool {
-    (word == estimator::LEVEL) | (word == applier::APPLY) | (word == limits::PROCESS)
+    (word == estimator::LEVEL)
+        | (word == applier::APPLY)
+        | (word == limits::PROCESS)
+        | (word == controller::PROCESS)
+}
+
+// How many figures stand before a frame's samples.
+fn before(word: u32) -> usize {
+    numbers::pick(word == controller::PROCESS, 8, 2)
+}
+
+// How many bytes of a line stand between its name and those samples, each figure with its space, and the
+// space before the first sample.
+fn bytes_before(word: u32) -> usize {
+    numbers::pick(word == controller::PROCESS, 73, 19)
 }
 
 // Asks the part, which leaves its figures on the desk, and answers the reply.
@@ -108,8 +141,14 @@ fn of_part(word: u32, desk: &mut [u32], frame: &mut [f32]) -> u32 {
         estimator::answer(word, desk, frame)
     } else if word < limits::FIRST {
         applier::answer(word, desk, frame)
-    } else if word < limits::LAST {
+    } else if word < speech::FIRST {
         limits::answer(word, desk, frame)
+    } else if word < protector::FIRST {
+        speech::answer(word, desk)
+    } else if word < controller::FIRST {
+        protector::answer(word, desk)
+    } else if word < controller::LAST {
+        controller::answer(word, desk, frame)
     } else {
         NO_QUESTION
     }
@@ -141,7 +180,7 @@ fn answer_in(
 ) -> usize {
     figures::ask(desk, line, name, MOST_ASKED);
     figures::store(desk, RESULTS, 0);
-    lines::fill(line, wrapping_add_usize(name, 19), frame);
+    lines::fill(line, wrapping_add_usize(name, bytes_before(word)), frame);
     let reply = of_part(word, desk, frame);
     put(out, at, reply, word, desk, frame)
 }
@@ -151,6 +190,7 @@ pub(crate) fn answer(line: &[u8], desk: &mut [u32], out: &mut [u8], at: usize) -
     let asked = lines::split(line);
     let word = word_of(line, asked);
     let mut frame = [0.0f32; lines::MOST];
-    let n = lines::samples_of(numbers::pick(is_sound(word), asked.count, 0), &frame);
+    let count = numbers::pick(is_sound(word), asked.count, 0);
+    let n = lines::samples_of(count, before(word), &frame);
     answer_in(line, asked.name, word, desk, &mut frame[..n], out, at)
 }

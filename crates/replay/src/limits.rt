@@ -43,8 +43,6 @@ const RESET: u32 = 22;
 
 pub const PROCESS: u32 = 23;
 
-pub const LAST: u32 = 24;
-
 // The limiter whose figures stand at a place.
 fn read(all: &[u32], from: usize) -> Limiter {
     Limiter {

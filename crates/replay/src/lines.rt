@@ -56,10 +56,12 @@ pub(crate) fn split(line: &[u8]) -> Asked {
 pub const MOST: usize = 3840;
 
 // Whether so many figures are as many as a byte of a list says: a digit, in which a is 10, or a star
-// for a frame, which is two figures and its samples.
+// for a frame, which is two figures and its samples, or a plus for one with six figures more.
 fn is_due(count: usize, byte: u8) -> bool {
     if byte == b'*' {
         (2 <= count) & (count <= MOST + 2)
+    } else if byte == b'+' {
+        (8 <= count) & (count <= MOST + 8)
     } else if count < 10 {
         48 + count as u8 == byte
     } else if count < 32 {
@@ -99,17 +101,17 @@ pub(crate) fn number_of(line: &[u8], asked: Asked, list: &[u8]) -> u32 {
     n
 }
 
-// How many of so many figures follow the first two.
-fn after_two(count: usize) -> usize {
-    if count < 2 { 0 } else { count - 2 }
+// How many of so many figures follow the first few.
+fn after(count: usize, first: usize) -> usize {
+    if count < first { 0 } else { count - first }
 }
 
-// How many of so many figures are a frame's samples: those after the first two, and no more than there
+// How many of so many figures are a frame's samples: those after the first few, and no more than there
 // is room for.
-pub(crate) fn samples_of(count: usize, frame: &[f32]) -> usize
+pub(crate) fn samples_of(count: usize, first: usize, frame: &[f32]) -> usize
     ensures { λ r. ⌜ (r ≤ length (now (frame .entry))) × (r ≡ length (take r (now (frame .entry)))) ⌝ }
 {
-    let n = after_two(count);
+    let n = after(count, first);
     if n <= frame.len() { n } else { frame.len() }
 }
 

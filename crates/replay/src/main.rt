@@ -5,6 +5,7 @@
 // The memory is fixed: input of any length goes through, and a line of any length.
 
 mod applier;
+mod controller;
 mod curve;
 mod desk;
 mod estimator;
@@ -12,8 +13,10 @@ mod figures;
 mod limits;
 mod lines;
 mod numbers;
+mod protector;
 mod ratio;
 mod ring;
+mod speech;
 
 ghost use Rattle.io.specs.Counts.{Counts};
 

@@ -38,7 +38,7 @@ const PUSH: u32 = 3;
 const RESET: u32 = 4;
 
 // The ring whose figures stand at a place.
-fn read(all: &[u32], from: usize) -> Ring {
+pub(crate) fn read(all: &[u32], from: usize) -> Ring {
     Ring {
         stored: [
             figures::float(all, from, 2),

@@ -6,8 +6,8 @@ use borrow.Author.Needs.{needs}
 use Rattle.replay.proofs.lines.samples_of.Statement.{statement}
 use Rattle.replay.proofs.lines.samples_of.Tie as tie
 
-after-two-requires : tie.Need-after-two-requires
-after-two-requires c κs = search needs
+after-requires : tie.Need-after-requires
+after-requires c κs = search needs
 
 returns : tie.Need-returns
 returns c = (c .if1 .taken, sym (length-take-le _ _ (c .if1 .taken)))
@@ -16,4 +16,4 @@ returns-2 : tie.Need-returns-2
 returns-2 c = (omega arith, sym (length-take-le _ _ (omega arith)))
 
 pub samples-of-spec : {M : Type 1} → statement M
-samples-of-spec = tie.close (tie.spec after-two-requires returns returns-2)
+samples-of-spec = tie.close (tie.spec after-requires returns returns-2)

@@ -1,0 +1,635 @@
+//! The gain controller: whole sequences of frames with the Rust's controller beside one that is written
+//! here from document 01, over the Rust's own gain applier and the ratio of rules.rs.
+//!
+//! The answers come from the one below, and after every call the Rust's must agree with it: in each
+//! sample, and in its whole state, which the Rust's `Debug` form shows. A handed-in state is in most cases
+//! that of a second controller, which goes on in the Rust too; any other is held to document 01 alone, and
+//! those frames are counted apart.
+//!
+//! The Rust as it stands goes along over the same frames, and shows how far its power function and the
+//! ratio by document 01's tables are apart.
+
+use crate::applier::{self, LARGEST};
+use crate::drive::{Ask, Part};
+use crate::judge::{self, Departure, Judge, Settings, Tally, ENVELOPE, HEADROOM, LEVEL, PROBABILITY};
+use crate::lines::{self, bits, DONE, FIGURE, SAMPLE, SETTING};
+use crate::random::Random;
+use crate::sound::{self, Frame};
+use sonora_as_is::adaptive_digital_gain_controller as as_is;
+use sonora_as_is::speech_level_estimator::AdaptiveDigitalConfig as AsIsConfig;
+use sonora_ruled::adaptive_digital_gain_controller as ruled;
+use sonora_ruled::rules::ratio;
+use sonora_ruled::speech_level_estimator::AdaptiveDigitalConfig as RuledConfig;
+
+/// What is known of a frame, as it is asked: probability, level, whether it is trusted, noise, headroom,
+/// envelope.
+#[derive(Clone, Copy)]
+struct Info([u32; 6]);
+
+/// Where the figures stand in it, with their ranges.
+const FIGURES: [(usize, judge::Range); 5] =
+    [(0, PROBABILITY), (1, LEVEL), (3, LEVEL), (4, HEADROOM), (5, ENVELOPE)];
+const TRUSTED: usize = 2;
+
+const GOOD: Info = Info([0x3f80_0000, 0xc220_0000, 1, 0xc2b4_0000, 0x41a0_0000, 0xc2b4_0000]);
+
+impl Info {
+    fn at(&self, i: usize) -> f32 {
+        f32::from_bits(self.0[i])
+    }
+
+    fn trusted(&self) -> bool {
+        self.0[TRUSTED] != 0
+    }
+
+    fn accepted(&self) -> bool {
+        let within = |i: usize, low: f32, high: f32| low <= self.at(i) && self.at(i) <= high;
+        within(0, 0.0, 1.0)
+            && within(1, -150.0, 50.0)
+            && within(3, -150.0, 50.0)
+            && within(4, 0.0, 100.0)
+            && self.at(4) > 0.0
+            && within(5, -150.0, 100.0)
+    }
+
+    fn with(mut self, i: usize, b: u32) -> Info {
+        self.0[i] = b;
+        self
+    }
+}
+
+/// The controller by document 01.
+#[derive(Clone, Copy, Default)]
+struct State {
+    applier: applier::State,
+    settings: Settings,
+    threshold: u32,
+    change: f32,
+    waiting: u32,
+    gain: f32,
+}
+
+/// What happened in a frame.
+#[derive(Clone, Copy, Default)]
+struct Seen {
+    by_noise: bool,
+    by_envelope: bool,
+    first: bool,
+    change: f32,
+}
+
+impl State {
+    fn new(settings: Settings, threshold: u32) -> State {
+        let gain = settings.at(2);
+        State {
+            applier: applier::State {
+                clip: false,
+                last: ratio(gain),
+                current: ratio(gain),
+                samples: -1,
+                inverse: -1.0,
+            },
+            settings,
+            threshold,
+            change: settings.at(3) * 10.0 / 1000.0,
+            waiting: threshold,
+            gain,
+        }
+    }
+
+    /// "waiting counts 0 to T; gain 0 to 51 dB, a controller's factors to 355; change per frame as its rule
+    /// gives it".
+    fn passes(&self) -> bool {
+        self.settings.accepted()
+            && judge::is_threshold(self.threshold)
+            && self.change == self.settings.at(3) * 10.0 / 1000.0
+            && self.waiting <= self.threshold
+            && 0.0 <= self.gain
+            && self.gain <= 51.0
+            && self.applier.passes()
+            && self.applier.last <= 355.0
+            && self.applier.current <= 355.0
+    }
+
+    fn figures(&self) -> Vec<u32> {
+        let mut all = self.applier.figures().to_vec();
+        all.extend(self.settings.figures());
+        all.extend([self.threshold, bits(self.change), self.waiting, bits(self.gain)]);
+        all
+    }
+
+    /// "an increase only after T adjacent speech frames, the first of them up to T times larger".
+    fn process(&mut self, info: &Info, channels: &mut [Vec<f32>]) -> Option<Seen> {
+        let mut seen = Seen::default();
+        let (headroom, most) = (self.settings.at(0), self.settings.at(1));
+        let level = info.at(1) + info.at(4);
+        let mut target = if level < -(headroom + most) {
+            most
+        } else if level < -headroom {
+            -headroom - level
+        } else {
+            0.0
+        };
+        let quiet = judge::larger(self.settings.at(4) - info.at(3), 0.0);
+        seen.by_noise = quiet < target;
+        target = judge::smaller(target, quiet);
+        if !info.trusted() && info.at(5) > -1.0 {
+            let bound = judge::larger(-1.0 - (info.at(5) - self.gain), 0.0);
+            seen.by_envelope = bound < target;
+            target = judge::smaller(bound, target);
+        }
+        if !judge::is_speech(info.at(0)) {
+            self.waiting = self.threshold;
+        } else if self.waiting > 0 {
+            self.waiting -= 1;
+            seen.first = self.waiting == 0;
+        }
+        let mut difference = target - self.gain;
+        if self.waiting > 0 {
+            difference = judge::smaller(difference, 0.0);
+        }
+        let rise = if seen.first { self.change * self.threshold as f32 } else { self.change };
+        seen.change = judge::clamp(difference, -self.change, rise);
+        let gain = self.gain + seen.change;
+        let mut made = applier::published(&self.applier)?;
+        if seen.change != 0.0 {
+            made.set_gain_factor(ratio(gain));
+        }
+        made.apply_gain(&mut channels.iter_mut().map(|c| c.as_mut_slice()).collect::<Vec<_>>());
+        self.applier = applier::State::of(&made)?;
+        self.gain = gain;
+        Some(seen)
+    }
+}
+
+const NAMES: [&str; 16] = [
+    "gain_applier",
+    "hard_clip_samples",
+    "last_gain_factor",
+    "current_gain_factor",
+    "samples_per_channel",
+    "inverse_samples_per_channel",
+    "config",
+    "headroom_db",
+    "max_gain_db",
+    "initial_gain_db",
+    "max_gain_change_db_per_second",
+    "max_output_noise_level_dbfs",
+    "adjacent_speech_frames_threshold",
+    "max_gain_change_db_per_10ms",
+    "frames_to_gain_increase_allowed",
+    "last_gain_db",
+];
+
+/// Where the factor and the gain stand in what the `Debug` form shows.
+const FACTOR: usize = 2;
+const GAIN: usize = 13;
+
+/// A controller by document 01, with the Rust's two beside it where they go along.
+struct Trio {
+    state: State,
+    rust: Option<(ruled::AdaptiveDigitalGainController, as_is::AdaptiveDigitalGainController)>,
+}
+
+impl Trio {
+    fn new(settings: Settings, threshold: u32) -> Trio {
+        let [headroom_db, max_gain_db, initial_gain_db, max_gain_change_db_per_second, max_output_noise_level_dbfs] =
+            settings.0.map(f32::from_bits);
+        let one = RuledConfig {
+            headroom_db,
+            max_gain_db,
+            initial_gain_db,
+            max_gain_change_db_per_second,
+            max_output_noise_level_dbfs,
+        };
+        let other = AsIsConfig {
+            headroom_db,
+            max_gain_db,
+            initial_gain_db,
+            max_gain_change_db_per_second,
+            max_output_noise_level_dbfs,
+        };
+        let t = threshold as i32;
+        let rust = (
+            ruled::AdaptiveDigitalGainController::new(one, t),
+            as_is::AdaptiveDigitalGainController::new(other, t),
+        );
+        Trio {
+            state: State::new(settings, threshold),
+            rust: Some(rust),
+        }
+    }
+
+    fn alone(state: State) -> Trio {
+        Trio { state, rust: None }
+    }
+}
+
+struct Desk {
+    now: Trio,
+    aside: Trio,
+    unlike: Vec<String>,
+    tally: Tally,
+    departures: [Departure; 3],
+    middles: Info,
+    samples: usize,
+    /// Frames limited by noise, by the envelope, with a first faster step, whose gain rises, falls, stays;
+    /// and frames of another shape than 1 channel of 40 samples.
+    cases: [usize; 7],
+}
+
+impl Desk {
+    fn new() -> Desk {
+        Desk {
+            now: Trio::alone(State::default()),
+            aside: Trio::new(Settings::USUAL, 12),
+            unlike: Vec::new(),
+            tally: Tally::default(),
+            departures: Default::default(),
+            middles: GOOD,
+            samples: 0,
+            cases: [0; 7],
+        }
+    }
+
+    /// Asks; the answer is the reply, the state, whether it passes, and the samples.
+    fn put(&mut self, name: &str, figures: &[u32], reply: u32, rest: &[u32], to: Ask) -> bool {
+        let state = &self.now.state;
+        let ours = state.figures();
+        if let Some((one, other)) = &self.now.rust {
+            let [theirs, as_it_stands] =
+                [format!("{:?}", one), format!("{:?}", other)].map(|text| judge::values(&text, &NAMES));
+            if theirs.as_ref() != Some(&ours) {
+                judge::object(&mut self.unlike, format!("after {} in frame {}: {:08x?}, and {:?}", name, self.tally.frames(), ours, one));
+            }
+            if let Some(theirs) = as_it_stands {
+                let gain = f32::from_bits(ours[GAIN]);
+                let frame = self.tally.frames();
+                for (found, at) in self.departures.iter_mut().zip([GAIN, FACTOR]) {
+                    let place = || format!("at {:?} dB, frame {}", gain, frame);
+                    found.note(f32::from_bits(ours[at]), f32::from_bits(theirs[at]), place);
+                }
+            }
+        }
+        let mut all = vec![reply];
+        all.extend(ours);
+        all.push(state.passes() as u32);
+        all.extend(rest);
+        to(lines::question(name, figures), lines::answer(&all))
+    }
+
+    fn call(&mut self, name: &str, figures: &[u32], reply: u32, to: Ask) -> bool {
+        self.tally.call(reply);
+        self.put(name, figures, reply, &[], to)
+    }
+
+    fn fresh(&mut self, settings: Settings, threshold: u32, to: Ask) -> bool {
+        let reply = if settings.accepted() && judge::is_threshold(threshold) {
+            self.now = Trio::new(settings, threshold);
+            DONE
+        } else {
+            self.now = Trio::alone(State::default());
+            SETTING
+        };
+        let mut figures = settings.0.to_vec();
+        figures.push(threshold);
+        self.call("controller.new", &figures, reply, to)
+    }
+
+    /// Hands any state in.
+    fn set(&mut self, state: State, to: Ask) -> bool {
+        self.now = Trio::alone(state);
+        self.call("controller.set", &state.figures(), DONE, to)
+    }
+
+    fn process(&mut self, info: &Info, frame: &Frame, to: Ask) -> bool {
+        let passes = self.now.state.passes();
+        // In the order 1, 4, 2, 3.
+        let reply = match frame.reply(true, passes, LARGEST) {
+            DONE | SAMPLE if !info.accepted() => FIGURE,
+            other => other,
+        };
+        let mut samples = frame.untouched();
+        if reply == DONE {
+            let mut ours = frame.sound();
+            let seen = self.now.state.process(info, &mut ours).unwrap_or_else(|| {
+                judge::object(&mut self.unlike, format!("no applier in frame {}", self.tally.frames()));
+                Seen::default()
+            });
+            samples = sound::flat(&ours);
+            self.count(&seen, frame);
+            self.beside(info, frame, &samples);
+        }
+        self.tally.frame(judge::is_speech(info.at(0)), reply, self.now.rust.is_some());
+        let mut figures = vec![frame.channels, frame.samples];
+        figures.extend(info.0);
+        figures.extend(&frame.data);
+        self.put("controller.process", &figures, reply, &samples, to)
+    }
+
+    fn count(&mut self, seen: &Seen, frame: &Frame) {
+        self.samples += frame.data.len();
+        let all = [
+            seen.by_noise,
+            seen.by_envelope,
+            seen.first,
+            seen.change > 0.0,
+            seen.change < 0.0,
+            seen.change == 0.0,
+            frame.data.len() != 40,
+        ];
+        for (count, one) in self.cases.iter_mut().zip(all) {
+            *count += one as usize;
+        }
+    }
+
+    /// The same frame with the Rust's two.
+    fn beside(&mut self, info: &Info, frame: &Frame, samples: &[u32]) {
+        let (one, other) = match &mut self.now.rust {
+            None => return,
+            Some(both) => both,
+        };
+        let (mut here, mut there) = (frame.sound(), frame.sound());
+        let [speech_probability, speech_level_dbfs, _, noise_rms_dbfs, headroom_db, limiter_envelope_dbfs] =
+            info.0.map(f32::from_bits);
+        let speech_level_reliable = info.trusted();
+        let known = ruled::FrameInfo {
+            speech_probability,
+            speech_level_dbfs,
+            speech_level_reliable,
+            noise_rms_dbfs,
+            headroom_db,
+            limiter_envelope_dbfs,
+        };
+        one.process(&known, &mut here.iter_mut().map(|c| c.as_mut_slice()).collect::<Vec<_>>());
+        let known = as_is::FrameInfo {
+            speech_probability,
+            speech_level_dbfs,
+            speech_level_reliable,
+            noise_rms_dbfs,
+            headroom_db,
+            limiter_envelope_dbfs,
+        };
+        other.process(&known, &mut there.iter_mut().map(|c| c.as_mut_slice()).collect::<Vec<_>>());
+        let number = self.tally.frames();
+        if sound::flat(&here) != samples {
+            judge::object(&mut self.unlike, format!("the samples of frame {}", number));
+        }
+        for (x, y) in here.iter().flatten().zip(there.iter().flatten()) {
+            self.departures[2].note(*x, *y, || format!("frame {}", number));
+        }
+    }
+}
+
+/// A frame of sound: in most cases 1 channel of 40 samples.
+fn any_frame(source: &mut Random) -> Frame {
+    let (channels, samples) = match source.up_to(255) {
+        0 => (1 + source.up_to(7), 40),
+        1 => (1, 40 + 20 * source.up_to(22)),
+        2 if source.up_to(7) == 0 => (1 + source.up_to(7), 40 + 20 * source.up_to(22)),
+        _ => (1, 40),
+    };
+    sound::frame(source.up_to(9) as usize, channels, samples, LARGEST, source)
+}
+
+fn short_frame(source: &mut Random) -> Frame {
+    sound::frame(2, 1, 40, LARGEST, source)
+}
+
+impl Judge for Desk {
+    fn tally(&mut self) -> &mut Tally {
+        &mut self.tally
+    }
+
+    fn has_the_rust(&self) -> bool {
+        self.now.rust.is_some()
+    }
+
+    fn threshold(&self) -> u32 {
+        self.now.state.threshold
+    }
+
+    fn renew(&mut self, threshold: u32, source: &mut Random, to: Ask) -> bool {
+        self.fresh(Settings::any(source), threshold, to)
+    }
+
+    fn swap(&mut self, to: Ask) -> bool {
+        if self.now.rust.is_none() {
+            self.now = Trio::new(Settings::USUAL, 3);
+        }
+        std::mem::swap(&mut self.now, &mut self.aside);
+        let figures = self.now.state.figures();
+        self.call("controller.set", &figures, DONE, to)
+    }
+
+    /// A controller has no reset: a new one with the same settings.
+    fn reset(&mut self, to: Ask) -> bool {
+        let state = self.now.state;
+        self.fresh(state.settings, state.threshold, to)
+    }
+
+    fn hand_in(&mut self, source: &mut Random, to: Ask) -> bool {
+        let threshold = judge::one_of(&judge::THRESHOLDS, source);
+        let mut state = State::new(Settings::any(source), threshold);
+        let factors = [0x0000_0001, 0x43b1_8000, 0x3f80_0000, source.up_to(0x43b1_7fff) + 1];
+        state.applier.clip = source.up_to(1) == 1;
+        state.applier.last = f32::from_bits(judge::one_of(&factors, source));
+        state.applier.current = f32::from_bits(judge::one_of(&factors, source));
+        state.applier.samples = judge::one_of(&[-1, 40, 60, 480], source);
+        state.applier.inverse = 1.0 / state.applier.samples as f32;
+        state.waiting = judge::one_of(&[0, 1, threshold - 1, threshold], source);
+        state.gain = judge::one_of(&[0.0, -0.0, 51.0, 51.0 * judge::fraction(source)], source);
+        self.set(state, to)
+    }
+
+    fn turn(&mut self, source: &mut Random) {
+        self.middles = GOOD
+            .with(1, (-100.0 * judge::fraction(source)).to_bits())
+            .with(TRUSTED, source.up_to(1))
+            .with(4, (10.0 + 20.0 * judge::fraction(source)).to_bits());
+        if source.up_to(2) == 0 {
+            self.middles.0[3] = (-100.0 * judge::fraction(source)).to_bits();
+        }
+        if source.up_to(2) == 0 {
+            self.middles.0[5] = (20.0 * judge::fraction(source) - 2.0).to_bits();
+        }
+    }
+
+    fn frame(&mut self, probability: u32, source: &mut Random, to: Ask) -> bool {
+        let mut info = self.middles.with(0, probability);
+        for (i, range) in FIGURES.iter().skip(1) {
+            if source.up_to(1) == 0 {
+                info.0[*i] = range.any(self.middles.at(*i), source);
+            }
+        }
+        let frame = any_frame(source);
+        self.process(&info, &frame, to)
+    }
+
+    fn wrong(&mut self, source: &mut Random, to: Ask) -> bool {
+        let mut info = self.middles.with(0, judge::probability(source.up_to(1) == 1, source));
+        let mut frame = short_frame(source);
+        let which = source.up_to(3);
+        if which < 2 {
+            let (i, range) = &FIGURES[source.up_to(4) as usize];
+            info.0[*i] = judge::one_of(range.wrong, source);
+        }
+        if which > 0 {
+            let some = sound::damaged(&frame, LARGEST);
+            frame = some[source.up_to(some.len() as u32 - 1) as usize].clone();
+        }
+        self.process(&info, &frame, to)
+    }
+
+    fn each_figure(&mut self, source: &mut Random, to: Ask) -> bool {
+        let good = short_frame(source);
+        let figures = FIGURES.iter().all(|(i, range)| {
+            range.ends.iter().chain(range.wrong).all(|&b| {
+                let info = GOOD.with(*i, b);
+                self.process(&info, &good, to) && (*i != 5 || self.process(&info.with(TRUSTED, 0), &good, to))
+            })
+        });
+        // 1 before 2, and 2 before 3.
+        let mut wrong = good.clone();
+        wrong.data[39] = 0x7fc0_0000;
+        let mut short = wrong.clone();
+        short.data.pop();
+        let bad = GOOD.with(1, 0x7fc0_0000);
+        figures
+            && self.process(&bad, &wrong, to)
+            && self.process(&bad, &short, to)
+            && sound::damaged(&good, LARGEST).iter().all(|one| self.process(&GOOD, one, to))
+            && self.process(&GOOD, &good, to)
+    }
+
+    fn each_setting(&mut self, source: &mut Random, to: Ask) -> bool {
+        let wrong = Settings::wrong();
+        wrong.into_iter().all(|settings| self.fresh(settings, 2, to))
+            && judge::WRONG_THRESHOLDS.iter().all(|&t| self.fresh(Settings::USUAL, t, to))
+            && [1, 200].iter().all(|&t| self.fresh(Settings::USUAL, t, to))
+            && Settings::ends().into_iter().all(|settings| {
+                self.fresh(settings, 2, to) && judge::run(self, 2, 0, source, to)
+            })
+    }
+
+    /// Each setting, the threshold, the change in a frame, the waiting count, the gain, and the applier's
+    /// figures, outside of what they may be.
+    fn fail(&mut self, which: usize, to: Ask) -> Option<bool> {
+        let good = State::new(Settings::USUAL, 3);
+        let mut all: Vec<State> = Vec::new();
+        let mut with = |change: &dyn Fn(&mut State)| {
+            let mut state = good;
+            change(&mut state);
+            all.push(state);
+        };
+        for settings in Settings::wrong().into_iter().step_by(3) {
+            with(&|s| s.settings = settings);
+        }
+        for t in judge::WRONG_THRESHOLDS {
+            with(&|s| s.threshold = t);
+        }
+        for b in [0x3d75_c290, 0x3d75_c28e, 0, 0x7fc0_0000] {
+            with(&|s| s.change = f32::from_bits(b));
+        }
+        for waiting in [4, u32::MAX] {
+            with(&|s| s.waiting = waiting);
+        }
+        for b in [0x8000_0001, 0x424c_0001, 0x7fc0_0000, 0x7f80_0000] {
+            with(&|s| s.gain = f32::from_bits(b));
+        }
+        for b in [0x43b1_8001, 0, 0x8000_0000, 0x4400_0000, 0x7fc0_0000] {
+            with(&|s| s.applier.last = f32::from_bits(b));
+            with(&|s| s.applier.current = f32::from_bits(b));
+        }
+        for samples in [0, 20, 50, 500, -2] {
+            with(&|s| {
+                s.applier.samples = samples;
+                s.applier.inverse = 1.0 / samples as f32;
+            });
+        }
+        with(&|s| s.applier.inverse = 1.0);
+        let state = *all.get(which)?;
+        if state.passes() {
+            judge::object(&mut self.unlike, format!("the state {} is to fail", which));
+        }
+        Some(self.set(state, to))
+    }
+
+    fn refuse(&mut self, source: &mut Random, to: Ask) -> bool {
+        let mut frame = short_frame(source);
+        frame.data[0] = 0x7fc0_0000;
+        let empty = Frame {
+            channels: 1,
+            samples: 40,
+            data: Vec::new(),
+        };
+        // 4 before 2 and 3, and 1 before 4.
+        self.process(&GOOD.with(0, 0x7fc0_0000), &frame, to) && self.process(&GOOD, &empty, to)
+    }
+}
+
+/// The questions of the fixed list.
+pub fn list(seed: u64, to: Ask) -> Vec<String> {
+    let mut desk = Desk::new();
+    judge::list(&mut desk, seed, &[1, 3], to);
+    // One frame of each other kind of shape.
+    let source = &mut Random::new(seed);
+    desk.fresh(Settings::USUAL, 1, to);
+    for (channels, samples) in [(2, 40), (1, 480), (3, 60)] {
+        let frame = sound::frame(2, channels, samples, LARGEST, source);
+        desk.process(&GOOD, &frame, to);
+    }
+    desk.unlike
+}
+
+pub struct Controllers {
+    seed: u64,
+    long: bool,
+    desk: Desk,
+}
+
+impl Controllers {
+    pub fn new(seed: u64, long: bool) -> Controllers {
+        Controllers {
+            seed,
+            long,
+            desk: Desk::new(),
+        }
+    }
+}
+
+impl Part for Controllers {
+    fn name(&self) -> &'static str {
+        "controller"
+    }
+
+    fn ask(&mut self, to: Ask) {
+        let frames = if self.long { 400_000 } else { 20_000 };
+        judge::play(&mut self.desk, self.seed, frames, to);
+    }
+
+    fn kinds(&self) -> Vec<(&'static str, usize)> {
+        let mut all = vec![("samples", self.desk.samples)];
+        all.extend(self.desk.tally.kinds());
+        all
+    }
+
+    fn unlike(&self) -> &[String] {
+        &self.desk.unlike
+    }
+
+    fn notes(&self) -> Vec<String> {
+        let [noise, envelope, first, up, down, same, shapes] = self.desk.cases;
+        let mut all = vec![
+            self.desk.tally.note(),
+            format!(
+                "of the frames {} are limited by the noise, {} by the envelope, {} end the waiting; in {} the gain rises, in {} it falls, in {} it stays; {} have another shape than 1 channel of 40",
+                noise, envelope, first, up, down, same, shapes
+            ),
+        ];
+        for (found, what) in self.desk.departures.iter().zip(["the gain in dB", "the gain factor", "the samples"]) {
+            all.push(found.line(what));
+        }
+        all
+    }
+}

@@ -1,0 +1,487 @@
+//! What the parts that judge have in common (the level of the speech, the protector and the controller):
+//! settings, thresholds, runs of speech frames, figures at the ends of their ranges, and the Rust's
+//! `Debug` form.
+
+use crate::drive::Ask;
+use crate::lines::{bits, DONE, FIGURE, SAMPLE, SETTING, SHAPE};
+use crate::random::Random;
+
+/// The thresholds that sequences are played with.
+pub const THRESHOLDS: [u32; 8] = [1, 2, 3, 12, 40, 41, 42, 200];
+
+/// "T 1 to 200".
+pub fn is_threshold(t: u32) -> bool {
+    (1..=200).contains(&t)
+}
+
+pub const WRONG_THRESHOLDS: [u32; 4] = [0, 201, 1 << 31, u32::MAX];
+
+/// "Larger, smaller and clamp keep the first operand when equal."
+pub fn larger(x: f32, y: f32) -> f32 {
+    if y > x {
+        y
+    } else {
+        x
+    }
+}
+
+pub fn smaller(x: f32, y: f32) -> f32 {
+    if y < x {
+        y
+    } else {
+        x
+    }
+}
+
+pub fn clamp(x: f32, low: f32, high: f32) -> f32 {
+    smaller(larger(x, low), high)
+}
+
+/// "speech from probability 0.95".
+pub fn is_speech(probability: f32) -> bool {
+    probability >= 0.95
+}
+
+/// A figure's range: its ends and what lies beside them, as bits; what is refused; and between which
+/// numbers others are drawn.
+pub struct Range {
+    pub ends: &'static [u32],
+    pub wrong: &'static [u32],
+    low: f32,
+    high: f32,
+}
+
+/// 0 to 1; 0.95 and the floats beside it.
+pub const PROBABILITY: Range = Range {
+    ends: &[0x3f73_3332, 0x3f73_3333, 0x3f73_3334, 0, 0x8000_0000, 0x0000_0001, 0x3f80_0000, 0x3f7f_ffff],
+    wrong: &[0x8000_0001, 0x3f80_0001, 0xbf80_0000, 0x7f80_0000, 0xff80_0000, 0x7fc0_0000, 0x7f80_0001, 0xffff_ffff],
+    low: 0.0,
+    high: 1.0,
+};
+
+/// Above -150, below 50.
+pub const RMS: Range = Range {
+    ends: &[0xc315_ffff, 0x4247_ffff, 0, 0x8000_0000, 0x0000_0001, 0x8000_0001],
+    wrong: &[0xc316_0000, 0x4248_0000, 0xc316_0001, 0x7f80_0000, 0xff80_0000, 0x7fc0_0000, 0x7f80_0001, 0xffff_ffff],
+    low: -149.0,
+    high: 49.0,
+};
+
+/// Peak, noise, speech level: -150 to 50.
+pub const LEVEL: Range = Range {
+    ends: &[0xc316_0000, 0xc315_ffff, 0x4248_0000, 0x4247_ffff, 0, 0x8000_0000, 0x0000_0001],
+    wrong: &[0xc316_0001, 0x4248_0001, 0x7f7f_ffff, 0x7f80_0000, 0xff80_0000, 0x7fc0_0000, 0x7f80_0001, 0xffff_ffff],
+    low: -150.0,
+    high: 50.0,
+};
+
+/// Above 0, to 100.
+pub const HEADROOM: Range = Range {
+    ends: &[0x0000_0001, 0x42c8_0000, 0x42c7_ffff, 0x4140_0000, 0x41c8_0000, 0x41a0_0000],
+    wrong: &[0, 0x8000_0000, 0x8000_0001, 0x42c8_0001, 0x7f80_0000, 0xff80_0000, 0x7fc0_0000, 0xffff_ffff],
+    low: 1.0,
+    high: 60.0,
+};
+
+/// -150 to 100; the controller's own -1 and the floats beside it.
+pub const ENVELOPE: Range = Range {
+    ends: &[0xc316_0000, 0x42c8_0000, 0xbf80_0000, 0xbf7f_ffff, 0xbf80_0001, 0, 0x8000_0000],
+    wrong: &[0xc316_0001, 0x42c8_0001, 0x7f80_0000, 0xff80_0000, 0x7fc0_0000, 0x7f80_0001, 0xffff_ffff],
+    low: -150.0,
+    high: 100.0,
+};
+
+/// A number from 0 to 1.
+pub fn fraction(source: &mut Random) -> f32 {
+    source.up_to(1 << 24) as f32 / (1 << 24) as f32
+}
+
+pub fn one_of<T: Copy>(all: &[T], source: &mut Random) -> T {
+    all[source.up_to(all.len() as u32 - 1) as usize]
+}
+
+impl Range {
+    /// Any figure that is accepted: an end, a whole number, or one near a middle.
+    pub fn any(&self, middle: f32, source: &mut Random) -> u32 {
+        let x = match source.up_to(15) {
+            0 => return one_of(self.ends, source),
+            1 => self.low + (self.high - self.low) * fraction(source),
+            2 => (self.low + (self.high - self.low) * fraction(source)).floor(),
+            3 => middle,
+            _ => middle + 12.0 * fraction(source) - 6.0,
+        };
+        clamp(x, self.low, self.high).to_bits()
+    }
+
+    /// A middle to draw near to.
+    pub fn middle(&self, source: &mut Random) -> f32 {
+        self.low + (self.high - self.low) * fraction(source)
+    }
+}
+
+/// The probability of a speech frame, or of one that is not.
+pub fn probability(speech: bool, source: &mut Random) -> u32 {
+    let least = 0x3f73_3333;
+    match (speech, source.up_to(7)) {
+        (true, 0) => least,
+        (true, 1) => least + 1,
+        (true, 2 | 3) => 0x3f80_0000,
+        (true, _) => least + source.up_to(0x3f80_0000 - least),
+        (false, 0 | 1) => least - 1,
+        (false, 2) => one_of(&[0, 0x8000_0000, 1], source),
+        (false, 3) => source.up_to(least - 1),
+        (false, _) => (0.949 * fraction(source)).to_bits(),
+    }
+}
+
+/// The settings: headroom, largest gain, initial gain, change per second, largest output noise.
+#[derive(Clone, Copy, Default)]
+pub struct Settings(pub [u32; 5]);
+
+/// The lowest and the highest of each.
+pub const ENDS: [[u32; 2]; 5] = [
+    [0, 0x4248_0000],
+    [0x0000_0001, 0x4248_0000],
+    [0, 0x4248_0000],
+    [0x3c23_d70a, 0x42c8_0000],
+    [0xc2b4_0000, 0],
+];
+
+/// What is refused of each: beside its ends, a negative zero, and no number.
+const WRONG: [[u32; 7]; 5] = [
+    [0x8000_0000, 0x8000_0001, 0x4248_0001, 0xbf80_0000, 0x7f80_0000, 0xff80_0000, 0x7fc0_0000],
+    [0, 0x8000_0000, 0x8000_0001, 0x4248_0001, 0x7f80_0000, 0xff80_0000, 0x7fc0_0000],
+    [0x8000_0000, 0x8000_0001, 0x4248_0001, 0xbf80_0000, 0x7f80_0000, 0xff80_0000, 0x7fc0_0000],
+    [0x3c23_d709, 0, 0x8000_0000, 0x42c8_0001, 0xc0c0_0000, 0x7f80_0000, 0x7fc0_0000],
+    [0x8000_0000, 0x0000_0001, 0xc2b4_0001, 0x3f80_0000, 0x7f80_0000, 0xff80_0000, 0x7fc0_0000],
+];
+
+impl Settings {
+    /// The Rust's defaults.
+    pub const USUAL: Settings = Settings([0x40a0_0000, 0x4248_0000, 0x4170_0000, 0x40c0_0000, 0xc248_0000]);
+
+    pub fn at(&self, i: usize) -> f32 {
+        f32::from_bits(self.0[i])
+    }
+
+    /// "headroom 0 to 50; largest gain above 0, to 50; initial gain 0 to 50; change per second 0.01 to
+    /// 100; largest output noise -90 to 0. A negative zero is refused in a setting".
+    pub fn accepted(&self) -> bool {
+        let within = |i: usize, low: f32, high: f32| low <= self.at(i) && self.at(i) <= high;
+        within(0, 0.0, 50.0)
+            && within(1, 0.0, 50.0)
+            && self.at(1) > 0.0
+            && within(2, 0.0, 50.0)
+            && within(3, 0.01, 100.0)
+            && within(4, -90.0, 0.0)
+            && !self.0.contains(&0x8000_0000)
+    }
+
+    pub fn figures(&self) -> [u32; 5] {
+        self.0.map(|b| bits(f32::from_bits(b)))
+    }
+
+    pub fn any(source: &mut Random) -> Settings {
+        let mut all = Settings::USUAL;
+        if source.up_to(3) == 0 {
+            return all;
+        }
+        for (i, [low, high]) in ENDS.into_iter().enumerate() {
+            let (from, to) = (f32::from_bits(low), f32::from_bits(high));
+            all.0[i] = match source.up_to(7) {
+                0 => low,
+                1 => high,
+                2 | 3 => all.0[i],
+                _ => clamp(from + (to - from) * fraction(source), from, to).to_bits(),
+            };
+        }
+        all
+    }
+
+    /// All lowest, all highest, and the usual ones with one of them at an end.
+    pub fn ends() -> Vec<Settings> {
+        let mut all = vec![Settings(ENDS.map(|[low, _]| low)), Settings(ENDS.map(|[_, high]| high))];
+        for (i, both) in ENDS.into_iter().enumerate() {
+            for one in both {
+                let mut settings = Settings::USUAL;
+                settings.0[i] = one;
+                all.push(settings);
+            }
+        }
+        all
+    }
+
+    /// The usual ones with one that is refused.
+    pub fn wrong() -> Vec<Settings> {
+        let mut all = Vec::new();
+        for (i, some) in WRONG.iter().enumerate() {
+            for &one in some {
+                let mut settings = Settings::USUAL;
+                settings.0[i] = one;
+                all.push(settings);
+            }
+        }
+        all
+    }
+}
+
+/// What a run asked.
+#[derive(Default)]
+pub struct Tally {
+    pub speech: usize,
+    pub pauses: usize,
+    pub with_the_rust: usize,
+    pub by_hand: usize,
+    pub refused: [usize; 5],
+    pub others: usize,
+    /// Runs shorter than T - 1, of T - 1, T, T + 1, and longer.
+    runs: [usize; 5],
+}
+
+impl Tally {
+    pub fn frame(&mut self, speech: bool, reply: u32, rust: bool) {
+        if reply == DONE {
+            self.speech += speech as usize;
+            self.pauses += !speech as usize;
+            self.with_the_rust += rust as usize;
+            self.by_hand += !rust as usize;
+        }
+        self.refused[reply as usize] += 1;
+    }
+
+    pub fn call(&mut self, reply: u32) {
+        self.others += 1;
+        self.refused[reply as usize] += 1;
+    }
+
+    pub fn frames(&self) -> usize {
+        self.speech + self.pauses
+    }
+
+    fn run(&mut self, threshold: u32, length: u32) {
+        let which = (length + 2).saturating_sub(threshold).min(4);
+        self.runs[which as usize] += 1;
+    }
+
+    pub fn kinds(&self) -> Vec<(&'static str, usize)> {
+        vec![
+            ("accepted frames", self.frames()),
+            ("of them speech", self.speech),
+            ("not speech", self.pauses),
+            ("with the Rust beside", self.with_the_rust),
+            ("by the paper alone", self.by_hand),
+            ("refused with 1", self.refused[SHAPE as usize]),
+            ("with 4", self.refused[SETTING as usize]),
+            ("with 2", self.refused[FIGURE as usize]),
+            ("with 3", self.refused[SAMPLE as usize]),
+            ("calls without a frame", self.others),
+        ]
+    }
+
+    pub fn note(&self) -> String {
+        let [less, short, at, past, longer] = self.runs;
+        format!(
+            "runs by their length: {} one short of T, {} at T, {} one past it, {} shorter, {} longer",
+            short, at, past, less, longer
+        )
+    }
+}
+
+/// A part that judges, with its state.
+pub trait Judge {
+    fn tally(&mut self) -> &mut Tally;
+    /// Whether the Rust goes along.
+    fn has_the_rust(&self) -> bool;
+    fn threshold(&self) -> u32;
+    /// Starts afresh with a threshold.
+    fn renew(&mut self, threshold: u32, source: &mut Random, to: Ask) -> bool;
+    /// Goes on in the Rust with another state, which is handed in.
+    fn swap(&mut self, to: Ask) -> bool;
+    fn reset(&mut self, to: Ask) -> bool;
+    /// Hands in a state that passes and that the Rust is not brought to.
+    fn hand_in(&mut self, source: &mut Random, to: Ask) -> bool;
+    /// What the figures of the next frames are drawn near to.
+    fn turn(&mut self, source: &mut Random);
+    /// A frame of this probability, accepted.
+    fn frame(&mut self, probability: u32, source: &mut Random, to: Ask) -> bool;
+    /// A frame that is refused, speech or not.
+    fn wrong(&mut self, source: &mut Random, to: Ask) -> bool;
+    /// Each figure's ends and what is refused of it, one after the other.
+    fn each_figure(&mut self, source: &mut Random, to: Ask) -> bool;
+    /// A new one with each setting at its ends and outside of them, and a short run with each.
+    fn each_setting(&mut self, source: &mut Random, to: Ask) -> bool;
+    /// Hands in one of the states that fail; none where there are no more.
+    fn fail(&mut self, which: usize, to: Ask) -> Option<bool>;
+    /// Each call that a failing state refuses.
+    fn refuse(&mut self, source: &mut Random, to: Ask) -> bool;
+}
+
+/// A run of speech frames, and then frames that are not, with a refused one here and there: those are not
+/// counted and do not end it.
+pub fn run(judge: &mut dyn Judge, length: u32, pause: u32, source: &mut Random, to: Ask) -> bool {
+    judge.turn(source);
+    for i in 0..length + pause {
+        if source.up_to(63) == 0 && !judge.wrong(source, to) {
+            return false;
+        }
+        if !judge.frame(probability(i < length, source), source, to) {
+            return false;
+        }
+    }
+    let threshold = judge.threshold();
+    judge.tally().run(threshold, length);
+    true
+}
+
+/// From a new state, each boundary of 400 ms: as many speech frames, once again, and then some more.
+fn boundaries(judge: &mut dyn Judge, threshold: u32, source: &mut Random, to: Ask) -> bool {
+    [39, 40, 41, 42, 81, 82, 83].iter().all(|&n| {
+        judge.renew(threshold, source, to)
+            && run(judge, n, 1, source, to)
+            && run(judge, n, 2, source, to)
+            && run(judge, threshold, 1, source, to)
+    })
+}
+
+/// Runs one short of a threshold, at it and one past it, many in a row, and others, in so many frames.
+fn runs(judge: &mut dyn Judge, threshold: u32, frames: usize, source: &mut Random, to: Ask) -> bool {
+    let wanted = judge.tally().frames() + frames;
+    let mut going = judge.renew(threshold, source, to);
+    while going && judge.tally().frames() < wanted {
+        // Whatever the state that goes on: that of another threshold may have been handed in.
+        let t = judge.threshold();
+        let length = match source.up_to(63) {
+            0 => t + source.up_to(600),
+            1..=3 => t + source.up_to(90),
+            4..=9 => source.up_to(2 * t + 2),
+            10..=27 => t - 1,
+            28..=45 => t,
+            _ => t + 1,
+        };
+        let pause = match source.up_to(7) {
+            0..=5 => 1,
+            6 => 2 + source.up_to(2),
+            _ => source.up_to(20),
+        };
+        going = run(judge, length, pause, source, to);
+        if !going {
+            break;
+        }
+        going = if !judge.has_the_rust() {
+            judge.swap(to)
+        } else {
+            match source.up_to(63) {
+                0..=2 => judge.reset(to),
+                3..=8 => judge.swap(to),
+                9 => judge.hand_in(source, to),
+                10 | 11 => judge.renew(threshold, source, to),
+                _ => true,
+            }
+        };
+    }
+    going
+}
+
+fn failing(judge: &mut dyn Judge, source: &mut Random, to: Ask) -> bool {
+    let mut which = 0;
+    while let Some(going) = judge.fail(which, to) {
+        if !going || !judge.refuse(source, to) {
+            return false;
+        }
+        which += 1;
+    }
+    true
+}
+
+/// What a run asks, in so many frames.
+pub fn play(judge: &mut dyn Judge, seed: u64, frames: usize, to: Ask) -> bool {
+    let source = &mut Random::new(seed);
+    judge.renew(2, source, to)
+        && judge.each_figure(source, to)
+        && judge.each_setting(source, to)
+        && failing(judge, source, to)
+        && THRESHOLDS.iter().all(|&t| boundaries(judge, t, source, to))
+        && THRESHOLDS.iter().all(|&t| runs(judge, t, frames / THRESHOLDS.len(), source, to))
+}
+
+/// The questions of the fixed list that all have: each figure's ends, each setting's, the states that fail,
+/// and runs of some thresholds.
+pub fn list(judge: &mut dyn Judge, seed: u64, thresholds: &[u32], to: Ask) {
+    let source = &mut Random::new(seed);
+    judge.renew(2, source, to);
+    judge.each_figure(source, to);
+    judge.each_setting(source, to);
+    failing(judge, source, to);
+    for &t in thresholds {
+        judge.renew(t, source, to);
+        for length in [t - 1, t - 1, t, t, t + 1, t + 1] {
+            run(judge, length, 1, source, to);
+        }
+        judge.swap(to);
+        run(judge, 2, 2, source, to);
+        judge.reset(to);
+        judge.hand_in(source, to);
+        run(judge, t, 1, source, to);
+    }
+}
+
+/// The values in the Rust's `Debug` form, in their order: floats as their bits. None where the names are
+/// not these.
+pub fn values(text: &str, names: &[&str]) -> Option<Vec<u32>> {
+    let mut found = Vec::new();
+    let mut due = names.iter();
+    for word in text.split(|c| matches!(c, ' ' | ',' | '{' | '}' | '[' | ']')) {
+        if let Some(name) = word.strip_suffix(':') {
+            if due.next() != Some(&name) {
+                return None;
+            }
+        } else if word == "true" || word == "false" {
+            found.push((word == "true") as u32);
+        } else if let Ok(n) = word.parse::<i32>() {
+            found.push(n as u32);
+        } else if let Ok(x) = word.parse::<f32>() {
+            found.push(x.to_bits());
+        } else if !word.chars().next().map_or(true, char::is_uppercase) {
+            return None;
+        }
+    }
+    match due.next() {
+        None => Some(found),
+        Some(_) => None,
+    }
+}
+
+/// Notes where the Rust and document 01 by hand do not agree; after a hundred there is no need of more.
+pub fn object(unlike: &mut Vec<String>, why: String) {
+    if unlike.len() < 100 {
+        unlike.push(why);
+    }
+}
+
+/// How far a value and that of the Rust as it stands are apart.
+#[derive(Default)]
+pub struct Departure {
+    frames: usize,
+    unlike: usize,
+    largest: f64,
+    place: String,
+}
+
+impl Departure {
+    pub fn note(&mut self, ours: f32, theirs: f32, place: impl Fn() -> String) {
+        self.frames += 1;
+        self.unlike += (ours.to_bits() != theirs.to_bits()) as usize;
+        let apart = (ours as f64 - theirs as f64).abs();
+        if apart > self.largest {
+            self.largest = apart;
+            self.place = format!(": {:?} and {:?}, {}", ours, theirs, place());
+        }
+    }
+
+    pub fn line(&self, what: &str) -> String {
+        format!(
+            "against the Rust as it stands, {}: {} compared, {} with other bits; largest difference {:.6e}{}",
+            what, self.frames, self.unlike, self.largest, self.place
+        )
+    }
+}

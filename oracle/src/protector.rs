@@ -1,0 +1,564 @@
+//! The headroom that the recent peaks ask for: whole sequences with the Rust's saturation protector beside
+//! one that is written here from document 01.
+//!
+//! The answers come from the one below, and after every call the Rust's must agree with it in its whole
+//! state, which the Rust's `Debug` form shows: both rings with their storage as well. Its count is not held
+//! at T: the smaller of count and T is compared. A handed-in state is in most cases that of a second
+//! protector, which goes on in the Rust too; any other is held to document 01 alone, and those frames are
+//! counted apart.
+//!
+//! The largest peak can meet two zeros of unlike sign. Here the first is kept, as the Rust does on x86-64;
+//! on Arm the Rust has +0 there, and exactly that is let through.
+
+use crate::drive::{Ask, Part};
+use crate::judge::{self, Departure, Judge, Tally, HEADROOM, LEVEL, PROBABILITY};
+use crate::lines::{self, bits, DONE, FIGURE, SETTING};
+use crate::random::Random;
+use sonora_as_is::saturation_protector::SaturationProtector as AsItStands;
+use sonora_ruled::saturation_protector::SaturationProtector as Published;
+
+/// common.rs: `MIN_LEVEL_DBFS`.
+const LOWEST: f32 = -90.309;
+
+/// "headroom, initial headroom: above 0, to 100".
+fn is_headroom(x: f32) -> bool {
+    0.0 < x && x <= 100.0
+}
+
+/// "peak, speech level: -150 to 50".
+fn is_level(x: f32) -> bool {
+    -150.0 <= x && x <= 50.0
+}
+
+#[derive(Clone, Copy, Default)]
+struct Peaks {
+    headroom: f32,
+    place: u32,
+    size: u32,
+    stored: [f32; 4],
+    largest: f32,
+    elapsed: u32,
+}
+
+impl Peaks {
+    fn new(headroom: f32) -> Peaks {
+        Peaks {
+            headroom,
+            largest: LOWEST,
+            ..Peaks::default()
+        }
+    }
+
+    /// "a protector's largest peak and ring storage -150 to 50; times 0 to 400 in tens; ring place 0 to 3,
+    /// size 0 to 4".
+    fn passes(&self) -> bool {
+        is_headroom(self.headroom)
+            && self.place <= 3
+            && self.size <= 4
+            && self.stored.iter().all(|&x| is_level(x))
+            && is_level(self.largest)
+            && self.elapsed <= 400
+            && self.elapsed % 10 == 0
+    }
+
+    fn figures(&self) -> Vec<u32> {
+        let mut all = vec![bits(self.headroom), self.place, self.size];
+        all.extend(self.stored.map(bits));
+        all.extend([bits(self.largest), self.elapsed]);
+        all
+    }
+
+    /// "The largest peak is pushed when elapsed time exceeds 400 ms; with an empty ring it stands for the
+    /// oldest." Answers whether it was pushed.
+    fn advance(&mut self, peak: f32, level: f32) -> bool {
+        self.largest = judge::larger(self.largest, peak);
+        self.elapsed += 10;
+        let due = self.elapsed > 400;
+        if due {
+            self.stored[self.place as usize] = self.largest;
+            self.place = (self.place + 1) % 4;
+            self.size = (self.size + 1).min(4);
+            self.largest = LOWEST;
+            self.elapsed = 0;
+        }
+        let oldest = match self.size {
+            0 => self.largest,
+            4 => self.stored[self.place as usize],
+            _ => self.stored[0],
+        };
+        let difference = oldest - level;
+        let stays: f32 = if difference > self.headroom { 0.9988494 } else { 0.99976975 };
+        self.headroom = judge::clamp(self.headroom * stays + difference * (1.0 - stays), 12.0, 25.0);
+        due
+    }
+
+    /// "Reset forgets items, not their storage."
+    fn restart(&mut self, headroom: f32) {
+        *self = Peaks {
+            stored: self.stored,
+            ..Peaks::new(headroom)
+        };
+    }
+}
+
+/// The protector by document 01.
+#[derive(Clone, Copy, Default)]
+struct State {
+    initial: f32,
+    threshold: u32,
+    count: u32,
+    headroom: f32,
+    preliminary: Peaks,
+    reliable: Peaks,
+}
+
+impl State {
+    fn new(initial: f32, threshold: u32) -> State {
+        State {
+            initial,
+            threshold,
+            count: 0,
+            headroom: initial,
+            preliminary: Peaks::new(initial),
+            reliable: Peaks::new(initial),
+        }
+    }
+
+    fn passes(&self) -> bool {
+        is_headroom(self.initial)
+            && judge::is_threshold(self.threshold)
+            && self.count <= self.threshold
+            && is_headroom(self.headroom)
+            && self.preliminary.passes()
+            && self.reliable.passes()
+    }
+
+    fn figures(&self) -> Vec<u32> {
+        let mut all = vec![bits(self.initial), self.threshold, self.count, bits(self.headroom)];
+        all.extend(self.preliminary.figures());
+        all.extend(self.reliable.figures());
+        all
+    }
+
+    /// Answers whether a peak was pushed.
+    fn analyze(&mut self, p: f32, peak: f32, level: f32) -> bool {
+        let t = self.threshold;
+        if judge::is_speech(p) {
+            let pushed = self.preliminary.advance(peak, level);
+            self.count = (self.count + 1).min(t);
+            if self.count == t {
+                self.headroom = self.preliminary.headroom;
+            }
+            pushed
+        } else {
+            if t > 1 && self.count == t {
+                self.reliable = self.preliminary;
+            } else if t > 1 && self.count > 0 {
+                self.preliminary = self.reliable;
+            }
+            self.count = 0;
+            false
+        }
+    }
+}
+
+const NAMES: [&str; 20] = [
+    "initial_headroom_db",
+    "adjacent_speech_frames_threshold",
+    "num_adjacent_speech_frames",
+    "headroom_db",
+    "preliminary_state",
+    "headroom_db",
+    "peak_delay_buffer",
+    "buffer",
+    "next",
+    "size",
+    "max_peaks_dbfs",
+    "time_since_push_ms",
+    "reliable_state",
+    "headroom_db",
+    "peak_delay_buffer",
+    "buffer",
+    "next",
+    "size",
+    "max_peaks_dbfs",
+    "time_since_push_ms",
+];
+
+/// Whether a peak is the Rust's: on Arm the Rust has +0 where two zeros of unlike sign met.
+fn is_peak(ours: u32, theirs: u32) -> bool {
+    ours == theirs || (cfg!(target_arch = "aarch64") && ours == 0x8000_0000 && theirs == 0)
+}
+
+/// Whether the Rust's protector has this state.
+fn is_shown(state: &State, other: &Published) -> bool {
+    let ours = state.figures();
+    let theirs = match judge::values(&format!("{:?}", other), &NAMES) {
+        Some(all) if all.len() == 22 => all,
+        _ => return false,
+    };
+    let first = ours[..2] == theirs[..2] && ours[2] == theirs[2].min(state.threshold) && ours[3] == theirs[3];
+    // Here a state is headroom, place, size, storage, largest, elapsed; the Rust has the storage before
+    // place and size.
+    let states = [4, 13].iter().all(|&at| {
+        let (one, two) = (&ours[at..at + 9], &theirs[at..at + 9]);
+        one[0] == two[0]
+            && one[1..3] == two[5..7]
+            && one[3..7].iter().zip(&two[1..5]).all(|(&x, &y)| is_peak(x, y))
+            && is_peak(one[7], two[7])
+            && one[8] == two[8]
+    });
+    first && states && other.headroom_db().to_bits() == state.headroom.to_bits()
+}
+
+/// A protector by document 01, with the Rust's two beside it where they go along.
+struct Trio {
+    state: State,
+    rust: Option<(Published, AsItStands)>,
+}
+
+impl Trio {
+    fn new(initial: f32, threshold: u32) -> Trio {
+        let t = threshold as i32;
+        Trio {
+            state: State::new(initial, threshold),
+            rust: Some((Published::new(initial, t), AsItStands::new(initial, t))),
+        }
+    }
+
+    fn alone(state: State) -> Trio {
+        Trio { state, rust: None }
+    }
+}
+
+struct Desk {
+    now: Trio,
+    aside: Trio,
+    unlike: Vec<String>,
+    tally: Tally,
+    departure: Departure,
+    peak: f32,
+    level: f32,
+    /// Frames that publish, push, and whose largest peak meets a zero of the other sign.
+    cases: [usize; 3],
+}
+
+impl Desk {
+    fn new() -> Desk {
+        Desk {
+            now: Trio::alone(State::default()),
+            aside: Trio::new(20.0, 12),
+            unlike: Vec::new(),
+            tally: Tally::default(),
+            departure: Departure::default(),
+            peak: -20.0,
+            level: -40.0,
+            cases: [0; 3],
+        }
+    }
+
+    /// Asks; the answer is the reply, the state, whether it passes, and the headroom.
+    fn put(&mut self, name: &str, figures: &[u32], reply: u32, to: Ask) -> bool {
+        let state = &self.now.state;
+        let mut all = vec![reply];
+        all.extend(state.figures());
+        if let Some((other, _)) = &self.now.rust {
+            if !is_shown(state, other) {
+                judge::object(&mut self.unlike, format!("after {} {:08x?}: {:08x?}, and {:?}", name, figures, all, other));
+            }
+        }
+        all.extend(if state.passes() { [1, DONE, bits(state.headroom)] } else { [0, SETTING, 0] });
+        to(lines::question(name, figures), lines::answer(&all))
+    }
+
+    fn call(&mut self, name: &str, figures: &[u32], reply: u32, to: Ask) -> bool {
+        self.tally.call(reply);
+        self.put(name, figures, reply, to)
+    }
+
+    /// "initial headroom is a figure", so 2, and the threshold a setting, so 4, which comes first.
+    fn fresh(&mut self, initial: u32, threshold: u32, to: Ask) -> bool {
+        let x = f32::from_bits(initial);
+        let reply = if !judge::is_threshold(threshold) {
+            SETTING
+        } else if !is_headroom(x) {
+            FIGURE
+        } else {
+            DONE
+        };
+        self.now = if reply == DONE { Trio::new(x, threshold) } else { Trio::alone(State::default()) };
+        self.call("protector.new", &[initial, threshold], reply, to)
+    }
+
+    /// Hands any state in.
+    fn set(&mut self, state: State, to: Ask) -> bool {
+        self.now = Trio::alone(state);
+        self.call("protector.set", &state.figures(), DONE, to)
+    }
+
+    fn analyze(&mut self, probability: u32, peak: u32, level: u32, to: Ask) -> bool {
+        let [p, x, y] = [probability, peak, level].map(f32::from_bits);
+        let reply = if !self.now.state.passes() {
+            SETTING
+        } else if !(0.0 <= p && p <= 1.0 && is_level(x) && is_level(y)) {
+            FIGURE
+        } else {
+            let speech = judge::is_speech(p);
+            let before = self.now.state.preliminary.largest;
+            self.cases[2] += (speech && before == 0.0 && x == 0.0 && before.to_bits() != x.to_bits()) as usize;
+            self.cases[1] += self.now.state.analyze(p, x, y) as usize;
+            let state = &self.now.state;
+            self.cases[0] += (speech && state.count == state.threshold) as usize;
+            if let Some((one, other)) = &mut self.now.rust {
+                one.analyze(p, x, y);
+                other.analyze(p, x, y);
+                let frame = self.tally.frames();
+                self.departure.note(state.headroom, other.headroom_db(), || format!("frame {}", frame));
+            }
+            DONE
+        };
+        self.tally.frame(judge::is_speech(p), reply, self.now.rust.is_some());
+        self.put("protector.analyze", &[probability, peak, level], reply, to)
+    }
+}
+
+impl Judge for Desk {
+    fn tally(&mut self) -> &mut Tally {
+        &mut self.tally
+    }
+
+    fn has_the_rust(&self) -> bool {
+        self.now.rust.is_some()
+    }
+
+    fn threshold(&self) -> u32 {
+        self.now.state.threshold
+    }
+
+    fn renew(&mut self, threshold: u32, source: &mut Random, to: Ask) -> bool {
+        let initial = match source.up_to(3) {
+            0 => 20.0_f32.to_bits(),
+            1 => judge::one_of(HEADROOM.ends, source),
+            _ => (10.0 + 17.0 * judge::fraction(source)).to_bits(),
+        };
+        self.fresh(initial, threshold, to)
+    }
+
+    fn swap(&mut self, to: Ask) -> bool {
+        if self.now.rust.is_none() {
+            self.now = Trio::new(20.0, 3);
+        }
+        std::mem::swap(&mut self.now, &mut self.aside);
+        let figures = self.now.state.figures();
+        self.call("protector.set", &figures, DONE, to)
+    }
+
+    fn reset(&mut self, to: Ask) -> bool {
+        let reply = if self.now.state.passes() {
+            let state = &mut self.now.state;
+            state.count = 0;
+            state.headroom = state.initial;
+            state.preliminary.restart(state.initial);
+            state.reliable.restart(state.initial);
+            if let Some((one, other)) = &mut self.now.rust {
+                one.reset();
+                other.reset();
+            }
+            DONE
+        } else {
+            SETTING
+        };
+        self.call("protector.reset", &[], reply, to)
+    }
+
+    fn hand_in(&mut self, source: &mut Random, to: Ask) -> bool {
+        let threshold = judge::one_of(&judge::THRESHOLDS, source);
+        let mut state = State::new(f32::from_bits(judge::one_of(HEADROOM.ends, source)), threshold);
+        state.headroom = f32::from_bits(judge::one_of(HEADROOM.ends, source));
+        state.count = judge::one_of(&[0, 1, threshold - 1, threshold], source);
+        for one in [&mut state.preliminary, &mut state.reliable] {
+            one.headroom = f32::from_bits(HEADROOM.any(18.0, source));
+            one.place = source.up_to(3);
+            one.size = source.up_to(4);
+            for x in one.stored.iter_mut() {
+                *x = f32::from_bits(LEVEL.any(-20.0, source));
+            }
+            one.largest = f32::from_bits(LEVEL.any(-20.0, source));
+            one.elapsed = 10 * judge::one_of(&[0, 1, 38, 39, 40], source);
+        }
+        self.set(state, to)
+    }
+
+    fn turn(&mut self, source: &mut Random) {
+        self.peak = LEVEL.middle(source);
+        // In most runs a headroom between its ends is asked for.
+        self.level = match source.up_to(3) {
+            0 => LEVEL.middle(source),
+            _ => judge::clamp(self.peak - 10.0 - 17.0 * judge::fraction(source), -150.0, 50.0),
+        };
+    }
+
+    fn frame(&mut self, probability: u32, source: &mut Random, to: Ask) -> bool {
+        let peak = match source.up_to(31) {
+            0 => judge::one_of(&[0, 0x8000_0000], source),
+            1 => LOWEST.to_bits(),
+            _ => LEVEL.any(self.peak, source),
+        };
+        let level = LEVEL.any(self.level, source);
+        self.analyze(probability, peak, level, to)
+    }
+
+    fn wrong(&mut self, source: &mut Random, to: Ask) -> bool {
+        let speech = source.up_to(1) == 1;
+        let mut all = [
+            judge::probability(speech, source),
+            LEVEL.any(self.peak, source),
+            LEVEL.any(self.level, source),
+        ];
+        let which = source.up_to(2) as usize;
+        all[which] = judge::one_of([&PROBABILITY, &LEVEL, &LEVEL][which].wrong, source);
+        self.analyze(all[0], all[1], all[2], to)
+    }
+
+    fn each_figure(&mut self, _: &mut Random, to: Ask) -> bool {
+        let [speech, peak, level] = [1.0_f32, -20.0, -40.0].map(f32::to_bits);
+        PROBABILITY.ends.iter().chain(PROBABILITY.wrong).all(|&p| self.analyze(p, peak, level, to))
+            && LEVEL.ends.iter().chain(LEVEL.wrong).all(|&x| {
+                self.analyze(speech, x, level, to) && self.analyze(speech, peak, x, to) && self.analyze(0, x, x, to)
+            })
+    }
+
+    fn each_setting(&mut self, source: &mut Random, to: Ask) -> bool {
+        let twenty = 20.0_f32.to_bits();
+        judge::WRONG_THRESHOLDS.iter().all(|&t| self.fresh(twenty, t, to) && self.fresh(0x7fc0_0000, t, to))
+            && HEADROOM.wrong.iter().all(|&x| self.fresh(x, 2, to))
+            && [1, 200].iter().all(|&t| self.fresh(twenty, t, to))
+            && HEADROOM.ends.iter().all(|&x| {
+                self.fresh(x, 2, to) && judge::run(self, 1, 1, source, to) && judge::run(self, 3, 1, source, to)
+            })
+    }
+
+    /// The initial headroom and the published one, the threshold, the count, and each figure of both
+    /// states, outside of its range.
+    fn fail(&mut self, which: usize, to: Ask) -> Option<bool> {
+        let good = State::new(20.0, 3);
+        let mut all: Vec<State> = Vec::new();
+        let mut with = |change: &dyn Fn(&mut State)| {
+            let mut state = good;
+            change(&mut state);
+            all.push(state);
+        };
+        for t in judge::WRONG_THRESHOLDS {
+            with(&|s| s.threshold = t);
+        }
+        for count in [4, 200, u32::MAX] {
+            with(&|s| s.count = count);
+        }
+        for b in [0, 0x8000_0000, 0x42c8_0001, 0x7fc0_0000, 0x7f80_0000] {
+            let x = f32::from_bits(b);
+            with(&|s| s.initial = x);
+            with(&|s| s.headroom = x);
+            with(&|s| s.preliminary.headroom = x);
+            with(&|s| s.reliable.headroom = x);
+        }
+        for b in [0xc316_0001, 0x4248_0001, 0x7fc0_0000, 0xff80_0000] {
+            let x = f32::from_bits(b);
+            with(&|s| s.preliminary.largest = x);
+            with(&|s| s.reliable.largest = x);
+            for i in 0..4 {
+                with(&|s| s.preliminary.stored[i] = x);
+            }
+            with(&|s| s.reliable.stored[3] = x);
+        }
+        for time in [5, 401, 410, u32::MAX] {
+            with(&|s| s.preliminary.elapsed = time);
+            with(&|s| s.reliable.elapsed = time);
+        }
+        for place in [4, u32::MAX] {
+            with(&|s| s.preliminary.place = place);
+            with(&|s| s.reliable.place = place);
+        }
+        for size in [5, u32::MAX] {
+            with(&|s| s.preliminary.size = size);
+            with(&|s| s.reliable.size = size);
+        }
+        let state = *all.get(which)?;
+        if state.passes() {
+            judge::object(&mut self.unlike, format!("the state {} is to fail", which));
+        }
+        Some(self.set(state, to))
+    }
+
+    fn refuse(&mut self, _: &mut Random, to: Ask) -> bool {
+        let [speech, peak, level] = [1.0_f32, -20.0, -40.0].map(f32::to_bits);
+        self.analyze(speech, peak, level, to) && self.analyze(0x7fc0_0000, peak, level, to) && self.reset(to)
+    }
+}
+
+/// Two zeros of unlike sign, in both orders, and each pushed.
+fn zeros(desk: &mut Desk, to: Ask) -> bool {
+    let [speech, level] = [1.0_f32, -20.0].map(f32::to_bits);
+    [[0, 0x8000_0000], [0x8000_0000, 0]].iter().all(|pair| {
+        desk.fresh(20.0_f32.to_bits(), 1, to) && (0..42).all(|i| desk.analyze(speech, pair[i % 2], level, to))
+    })
+}
+
+/// The questions of the fixed list. "40 speech frames push nothing, the 41st pushes" is among them.
+pub fn list(seed: u64, to: Ask) -> Vec<String> {
+    let mut desk = Desk::new();
+    judge::list(&mut desk, seed, &[1, 2, 12], to);
+    zeros(&mut desk, to);
+    let [speech, peak, level] = [1.0_f32, -5.0, -30.0].map(f32::to_bits);
+    desk.fresh(20.0_f32.to_bits(), 1, to);
+    for i in 0..42 {
+        desk.analyze(speech, peak, level, to);
+        if desk.now.state.preliminary.size != (i >= 40) as u32 {
+            judge::object(&mut desk.unlike, format!("a push after {} speech frames", i + 1));
+        }
+    }
+    desk.unlike
+}
+
+pub struct Protectors {
+    seed: u64,
+    long: bool,
+    desk: Desk,
+}
+
+impl Protectors {
+    pub fn new(seed: u64, long: bool) -> Protectors {
+        Protectors {
+            seed,
+            long,
+            desk: Desk::new(),
+        }
+    }
+}
+
+impl Part for Protectors {
+    fn name(&self) -> &'static str {
+        "protector"
+    }
+
+    fn ask(&mut self, to: Ask) {
+        let frames = if self.long { 1_000_000 } else { 60_000 };
+        let _ = zeros(&mut self.desk, to) && judge::play(&mut self.desk, self.seed, frames, to);
+    }
+
+    fn kinds(&self) -> Vec<(&'static str, usize)> {
+        self.desk.tally.kinds()
+    }
+
+    fn unlike(&self) -> &[String] {
+        &self.desk.unlike
+    }
+
+    fn notes(&self) -> Vec<String> {
+        let [published, pushed, zeros] = self.desk.cases;
+        vec![
+            self.desk.tally.note(),
+            format!("of the frames {} publish, {} push a peak, and in {} two zeros of unlike sign meet", published, pushed, zeros),
+            self.desk.departure.line("the headroom in dB"),
+        ]
+    }
+}

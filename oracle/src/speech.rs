@@ -1,0 +1,512 @@
+//! The level of the speech: whole sequences with the Rust's speech level estimator beside one that is
+//! written here from document 01.
+//!
+//! The answers come from the one below, and after every call the Rust's must agree with it in its whole
+//! state, which the Rust's `Debug` form shows. The Rust keeps no settings, and its count is not held at T:
+//! the smaller of count and T is compared. A handed-in state is in most cases that of a second estimator,
+//! which goes on in the Rust too; any other is held to document 01 alone, and those frames are counted
+//! apart.
+
+use crate::drive::{Ask, Part};
+use crate::judge::{self, Departure, Judge, Settings, Tally, PROBABILITY, RMS};
+use crate::lines::{self, bits, DONE, FIGURE, SETTING};
+use crate::random::Random;
+use sonora_as_is::speech_level_estimator as as_is;
+use sonora_ruled::speech_level_estimator as ruled;
+
+#[derive(Clone, Copy, Default)]
+struct Average {
+    left: u32,
+    sum: f32,
+    weight: f32,
+}
+
+impl Average {
+    /// "times 0 to 400 in tens; weight from 1 to 450 less the time left; the sum's magnitude at most
+    /// exactly 151 times the weight".
+    fn passes(&self) -> bool {
+        self.left <= 400
+            && self.left % 10 == 0
+            && 1.0 <= self.weight
+            && self.weight <= (450 - self.left) as f32
+            && (self.sum as f64).abs() <= 151.0 * self.weight as f64
+    }
+
+    fn figures(&self) -> [u32; 3] {
+        [self.left, bits(self.sum), bits(self.weight)]
+    }
+}
+
+/// The estimator by document 01.
+#[derive(Clone, Copy, Default)]
+struct State {
+    settings: Settings,
+    threshold: u32,
+    initial: f32,
+    preliminary: Average,
+    reliable: Average,
+    level: f32,
+    confident: bool,
+    count: u32,
+}
+
+/// "Starts at the clamped -20 - initial gain - headroom".
+fn starting(settings: &Settings) -> f32 {
+    judge::clamp(-20.0 - settings.at(2) - settings.at(0), -90.0, 30.0)
+}
+
+impl State {
+    fn new(settings: Settings, threshold: u32) -> State {
+        let initial = starting(&settings);
+        let average = Average {
+            left: 400,
+            sum: initial,
+            weight: 1.0,
+        };
+        State {
+            settings,
+            threshold,
+            initial,
+            preliminary: average,
+            reliable: average,
+            level: initial,
+            confident: false,
+            count: 0,
+        }
+    }
+
+    fn passes(&self) -> bool {
+        self.settings.accepted()
+            && judge::is_threshold(self.threshold)
+            && self.initial == starting(&self.settings)
+            && -90.0 <= self.level
+            && self.level <= 30.0
+            && self.count <= self.threshold
+            && self.preliminary.passes()
+            && self.reliable.passes()
+    }
+
+    fn figures(&self) -> Vec<u32> {
+        let mut all = self.settings.figures().to_vec();
+        all.extend([self.threshold, bits(self.initial)]);
+        all.extend(self.preliminary.figures());
+        all.extend(self.reliable.figures());
+        all.extend([bits(self.level), self.confident as u32, self.count]);
+        all
+    }
+
+    fn update(&mut self, rms: f32, p: f32) {
+        let t = self.threshold;
+        if judge::is_speech(p) {
+            let one = &mut self.preliminary;
+            let leak = if one.left == 0 { 1.0 - 1.0 / 400.0 } else { 1.0 };
+            one.left = one.left.saturating_sub(10);
+            one.sum = one.sum * leak + rms * p;
+            one.weight = one.weight * leak + p;
+            self.count = (self.count + 1).min(t);
+            if self.count == t {
+                self.level = judge::clamp(one.sum / one.weight, -90.0, 30.0);
+            }
+        } else {
+            if t > 1 && self.count == t {
+                self.reliable = self.preliminary;
+            } else if t > 1 && self.count > 0 {
+                self.preliminary = self.reliable;
+            }
+            self.count = 0;
+        }
+        self.confident = if t == 1 {
+            self.preliminary.left == 0
+        } else {
+            self.reliable.left == 0 || (self.count == t && self.preliminary.left == 0)
+        };
+    }
+}
+
+const NAMES: [&str; 15] = [
+    "initial_speech_level_dbfs",
+    "adjacent_speech_frames_threshold",
+    "preliminary_state",
+    "time_to_confidence_ms",
+    "level_dbfs",
+    "numerator",
+    "denominator",
+    "reliable_state",
+    "time_to_confidence_ms",
+    "level_dbfs",
+    "numerator",
+    "denominator",
+    "level_dbfs",
+    "is_confident",
+    "num_adjacent_speech_frames",
+];
+
+/// A weight whose product with 151 is no f32, the f32 next above that product, which is also the nearest,
+/// and the one below.
+const WEIGHT: u32 = 0x3f80_0003;
+const OVER: u32 = 0x4317_0004;
+const UNDER: u32 = 0x4317_0003;
+
+/// Whether the Rust's estimator has this state: all of it but for the settings.
+fn is_shown(state: &State, other: &ruled::SpeechLevelEstimator) -> bool {
+    let mut ours = state.figures().split_off(6);
+    ours.insert(1, state.threshold);
+    match judge::values(&format!("{:?}", other), &NAMES) {
+        None => false,
+        Some(mut theirs) => {
+            if let Some(count) = theirs.last_mut() {
+                *count = (*count).min(state.threshold);
+            }
+            ours == theirs
+                && other.level_dbfs().to_bits() == state.level.to_bits()
+                && other.is_confident() == state.confident
+        }
+    }
+}
+
+/// An estimator by document 01, with the Rust's two beside it where they go along.
+struct Trio {
+    state: State,
+    rust: Option<(ruled::SpeechLevelEstimator, as_is::SpeechLevelEstimator)>,
+}
+
+impl Trio {
+    fn new(settings: Settings, threshold: u32) -> Trio {
+        let [headroom_db, max_gain_db, initial_gain_db, max_gain_change_db_per_second, max_output_noise_level_dbfs] =
+            settings.0.map(f32::from_bits);
+        let one = ruled::AdaptiveDigitalConfig {
+            headroom_db,
+            max_gain_db,
+            initial_gain_db,
+            max_gain_change_db_per_second,
+            max_output_noise_level_dbfs,
+        };
+        let other = as_is::AdaptiveDigitalConfig {
+            headroom_db,
+            max_gain_db,
+            initial_gain_db,
+            max_gain_change_db_per_second,
+            max_output_noise_level_dbfs,
+        };
+        let t = threshold as i32;
+        let rust = (ruled::SpeechLevelEstimator::new(&one, t), as_is::SpeechLevelEstimator::new(&other, t));
+        Trio {
+            state: State::new(settings, threshold),
+            rust: Some(rust),
+        }
+    }
+
+    fn alone(state: State) -> Trio {
+        Trio { state, rust: None }
+    }
+}
+
+struct Desk {
+    now: Trio,
+    aside: Trio,
+    unlike: Vec<String>,
+    tally: Tally,
+    departure: Departure,
+    middle: f32,
+    /// Frames after which a level was published, that leaked, and after which it was trusted.
+    cases: [usize; 3],
+}
+
+impl Desk {
+    fn new() -> Desk {
+        Desk {
+            now: Trio::alone(State::default()),
+            aside: Trio::new(Settings::USUAL, 12),
+            unlike: Vec::new(),
+            tally: Tally::default(),
+            departure: Departure::default(),
+            middle: -40.0,
+            cases: [0; 3],
+        }
+    }
+
+    /// Asks; the answer is the reply, the state, whether it passes, the level, and whether it is trusted.
+    fn put(&mut self, name: &str, figures: &[u32], reply: u32, to: Ask) -> bool {
+        let state = &self.now.state;
+        let mut all = vec![reply];
+        all.extend(state.figures());
+        if let Some((other, _)) = &self.now.rust {
+            if !is_shown(state, other) {
+                judge::object(&mut self.unlike, format!("after {} {:08x?}: {:08x?}, and {:?}", name, figures, all, other));
+            }
+        }
+        all.extend(if state.passes() {
+            [1, DONE, bits(state.level), DONE, state.confident as u32]
+        } else {
+            [0, SETTING, 0, SETTING, 0]
+        });
+        to(lines::question(name, figures), lines::answer(&all))
+    }
+
+    fn call(&mut self, name: &str, figures: &[u32], reply: u32, to: Ask) -> bool {
+        self.tally.call(reply);
+        self.put(name, figures, reply, to)
+    }
+
+    fn fresh(&mut self, settings: Settings, threshold: u32, to: Ask) -> bool {
+        let reply = if settings.accepted() && judge::is_threshold(threshold) {
+            self.now = Trio::new(settings, threshold);
+            DONE
+        } else {
+            self.now = Trio::alone(State::default());
+            SETTING
+        };
+        let mut figures = settings.0.to_vec();
+        figures.push(threshold);
+        self.call("speech.new", &figures, reply, to)
+    }
+
+    /// Hands any state in.
+    fn set(&mut self, state: State, to: Ask) -> bool {
+        self.now = Trio::alone(state);
+        self.call("speech.set", &state.figures(), DONE, to)
+    }
+
+    fn update(&mut self, rms: u32, probability: u32, to: Ask) -> bool {
+        let (x, p) = (f32::from_bits(rms), f32::from_bits(probability));
+        let reply = if !self.now.state.passes() {
+            SETTING
+        } else if !(-150.0 < x && x < 50.0 && 0.0 <= p && p <= 1.0) {
+            FIGURE
+        } else {
+            let speech = judge::is_speech(p);
+            self.cases[1] += (speech && self.now.state.preliminary.left == 0) as usize;
+            self.now.state.update(x, p);
+            let state = &self.now.state;
+            self.cases[0] += (speech && state.count == state.threshold) as usize;
+            self.cases[2] += state.confident as usize;
+            if let Some((one, other)) = &mut self.now.rust {
+                one.update(x, p);
+                other.update(x, p);
+                let frame = self.tally.frames();
+                self.departure.note(state.level, other.level_dbfs(), || format!("frame {}", frame));
+            }
+            DONE
+        };
+        self.tally.frame(judge::is_speech(p), reply, self.now.rust.is_some());
+        self.put("speech.update", &[rms, probability], reply, to)
+    }
+}
+
+impl Judge for Desk {
+    fn tally(&mut self) -> &mut Tally {
+        &mut self.tally
+    }
+
+    fn has_the_rust(&self) -> bool {
+        self.now.rust.is_some()
+    }
+
+    fn threshold(&self) -> u32 {
+        self.now.state.threshold
+    }
+
+    fn renew(&mut self, threshold: u32, source: &mut Random, to: Ask) -> bool {
+        self.fresh(Settings::any(source), threshold, to)
+    }
+
+    fn swap(&mut self, to: Ask) -> bool {
+        if self.now.rust.is_none() {
+            self.now = Trio::new(Settings::USUAL, 3);
+        }
+        std::mem::swap(&mut self.now, &mut self.aside);
+        let figures = self.now.state.figures();
+        self.call("speech.set", &figures, DONE, to)
+    }
+
+    fn reset(&mut self, to: Ask) -> bool {
+        let state = self.now.state;
+        let reply = if state.passes() {
+            self.now.state = State::new(state.settings, state.threshold);
+            if let Some((one, other)) = &mut self.now.rust {
+                one.reset();
+                other.reset();
+            }
+            DONE
+        } else {
+            SETTING
+        };
+        self.call("speech.reset", &[], reply, to)
+    }
+
+    fn hand_in(&mut self, source: &mut Random, to: Ask) -> bool {
+        let threshold = judge::one_of(&judge::THRESHOLDS, source);
+        let mut state = State::new(Settings::any(source), threshold);
+        for one in [&mut state.preliminary, &mut state.reliable] {
+            one.left = 10 * judge::one_of(&[0, 1, 2, 20, 39, 40], source);
+            let most = (450 - one.left) as f32;
+            one.weight = judge::one_of(&[1.0, most, 1.0 + (most - 1.0) * judge::fraction(source)], source);
+            let share = judge::one_of(&[-1.0, 1.0, 0.0, -0.0, 2.0 * judge::fraction(source) - 1.0], source);
+            // The largest sum that passes: 151 times the weight, rounded towards 0.
+            let bound = 151.0 * one.weight as f64;
+            let mut sum = (bound * share as f64) as f32;
+            if (sum as f64).abs() > bound {
+                sum = f32::from_bits(sum.to_bits() - 1);
+            }
+            one.sum = sum;
+        }
+        state.level = judge::one_of(&[-90.0, 30.0, -0.0, -90.0 + 120.0 * judge::fraction(source)], source);
+        state.confident = source.up_to(1) == 1;
+        state.count = judge::one_of(&[0, 1, threshold - 1, threshold], source);
+        self.set(state, to)
+    }
+
+    fn turn(&mut self, source: &mut Random) {
+        self.middle = RMS.middle(source);
+    }
+
+    fn frame(&mut self, probability: u32, source: &mut Random, to: Ask) -> bool {
+        let rms = RMS.any(self.middle, source);
+        self.update(rms, probability, to)
+    }
+
+    fn wrong(&mut self, source: &mut Random, to: Ask) -> bool {
+        let speech = source.up_to(1) == 1;
+        let (mut rms, mut p) = (RMS.any(self.middle, source), judge::probability(speech, source));
+        match source.up_to(2) {
+            0 => rms = judge::one_of(RMS.wrong, source),
+            1 => p = judge::one_of(PROBABILITY.wrong, source),
+            _ => (rms, p) = (judge::one_of(RMS.wrong, source), judge::one_of(PROBABILITY.wrong, source)),
+        }
+        self.update(rms, p, to)
+    }
+
+    fn each_figure(&mut self, _: &mut Random, to: Ask) -> bool {
+        let speech = 1.0_f32.to_bits();
+        RMS.ends.iter().chain(RMS.wrong).all(|&rms| self.update(rms, speech, to) && self.update(rms, 0, to))
+            && PROBABILITY.ends.iter().chain(PROBABILITY.wrong).all(|&p| self.update((-30.0_f32).to_bits(), p, to))
+            && [UNDER, UNDER | 1 << 31].iter().all(|&sum| {
+                let mut state = State::new(Settings::USUAL, 1);
+                state.preliminary.sum = f32::from_bits(sum);
+                state.preliminary.weight = f32::from_bits(WEIGHT);
+                self.set(state, to) && self.update(0x4247_ffff, speech, to)
+            })
+    }
+
+    fn each_setting(&mut self, source: &mut Random, to: Ask) -> bool {
+        let wrong = Settings::wrong();
+        wrong.into_iter().all(|settings| self.fresh(settings, 2, to))
+            && judge::WRONG_THRESHOLDS.iter().all(|&t| self.fresh(Settings::USUAL, t, to))
+            && [1, 200].iter().all(|&t| self.fresh(Settings::USUAL, t, to))
+            && Settings::ends().into_iter().all(|settings| {
+                self.fresh(settings, 2, to) && judge::run(self, 1, 1, source, to) && judge::run(self, 3, 1, source, to)
+            })
+    }
+
+    /// Each setting, the threshold, the starting level, the published one, the count, and each figure of
+    /// both averages, outside of its range.
+    fn fail(&mut self, which: usize, to: Ask) -> Option<bool> {
+        let good = State::new(Settings::USUAL, 3);
+        let mut all: Vec<State> = Vec::new();
+        let mut with = |change: &dyn Fn(&mut State)| {
+            let mut state = good;
+            change(&mut state);
+            all.push(state);
+        };
+        for settings in Settings::wrong() {
+            with(&|s| s.settings = settings);
+        }
+        for t in judge::WRONG_THRESHOLDS {
+            with(&|s| s.threshold = t);
+        }
+        for b in [0xc220_0001, 0xc21f_ffff, 0x7fc0_0000, 0] {
+            with(&|s| s.initial = f32::from_bits(b));
+        }
+        for b in [0xc2b4_0001, 0x41f0_0001, 0x7fc0_0000, 0x7f80_0000, 0xff80_0000] {
+            with(&|s| s.level = f32::from_bits(b));
+        }
+        for count in [4, 200, u32::MAX] {
+            with(&|s| s.count = count);
+        }
+        let averages = [
+            (401, 0.0, 1.0),
+            (410, 0.0, 1.0),
+            (5, 0.0, 1.0),
+            (u32::MAX, 0.0, 1.0),
+            (400, 0.0, 0.99999994),
+            (400, 0.0, 50.000004),
+            (0, 0.0, 450.00003),
+            (390, 0.0, f32::NAN),
+            (390, 0.0, f32::INFINITY),
+            (400, 151.00002, 1.0),
+            (400, -151.00002, 1.0),
+            // 151 times this weight is no f32: the sum is that product rounded, and so above it.
+            (0, f32::from_bits(OVER), f32::from_bits(WEIGHT)),
+            (0, -f32::from_bits(OVER), f32::from_bits(WEIGHT)),
+            (400, f32::NAN, 1.0),
+            (400, f32::NEG_INFINITY, 1.0),
+        ];
+        for (left, sum, weight) in averages {
+            with(&|s| s.preliminary = Average { left, sum, weight });
+            with(&|s| s.reliable = Average { left, sum, weight });
+        }
+        let state = *all.get(which)?;
+        if state.passes() {
+            judge::object(&mut self.unlike, format!("the state {} is to fail", which));
+        }
+        Some(self.set(state, to))
+    }
+
+    fn refuse(&mut self, _: &mut Random, to: Ask) -> bool {
+        self.update((-30.0_f32).to_bits(), 1.0_f32.to_bits(), to) && self.update(0x7fc0_0000, 0, to) && self.reset(to)
+    }
+}
+
+/// The questions of the fixed list.
+pub fn list(seed: u64, to: Ask) -> Vec<String> {
+    let mut desk = Desk::new();
+    judge::list(&mut desk, seed, &[1, 2, 12], to);
+    // 40 speech frames take all of the time off, and from the 41st on the sum leaks.
+    desk.fresh(Settings::USUAL, 40, to);
+    judge::run(&mut desk, 45, 1, &mut Random::new(seed), to);
+    desk.unlike
+}
+
+pub struct Speeches {
+    seed: u64,
+    long: bool,
+    desk: Desk,
+}
+
+impl Speeches {
+    pub fn new(seed: u64, long: bool) -> Speeches {
+        Speeches {
+            seed,
+            long,
+            desk: Desk::new(),
+        }
+    }
+}
+
+impl Part for Speeches {
+    fn name(&self) -> &'static str {
+        "speech"
+    }
+
+    fn ask(&mut self, to: Ask) {
+        let frames = if self.long { 1_000_000 } else { 60_000 };
+        judge::play(&mut self.desk, self.seed, frames, to);
+    }
+
+    fn kinds(&self) -> Vec<(&'static str, usize)> {
+        self.desk.tally.kinds()
+    }
+
+    fn unlike(&self) -> &[String] {
+        &self.desk.unlike
+    }
+
+    fn notes(&self) -> Vec<String> {
+        let [published, leaked, confident] = self.desk.cases;
+        vec![
+            self.desk.tally.note(),
+            format!("of the frames {} publish, {} leak, and {} end with a level that is trusted", published, leaked, confident),
+            self.desk.departure.line("the level in dBFS"),
+        ]
+    }
+}
