@@ -177,7 +177,9 @@ impl Chain {
         let inside = limiter.estimator;
         let set = samples == inside.samples;
         let shape = frames::is_shape(channels, samples, frame.len()) & set;
-        let before = refusal(shape, self.passes(), figures.accepted(), true);
+        let state = self.passes();
+        let figure = figures.accepted();
+        let before = refusal(shape, state, figure, true);
         if before == DONE {
             let p = figures.probability;
             let first = estimator.update(Dbfs(figures.rms.0), p);

@@ -17,7 +17,6 @@ use Rattle.frames.specs.Facts.{and-first, Taken, taken}
 use Rattle.runs.specs.Runs.{speech}
 use Rattle.gain_applier.specs.Applier as Applying
 use Rattle.gain_applier.specs.Range.{Held}
-use Rattle.speech_level_estimator.specs.Estimator as Level
 use Rattle.speech_level_estimator.specs.Calls as Levels
 use Rattle.speech_level_estimator.specs.declared.Estimator.{Estimator}
 use Rattle.speech_level_estimator.specs.declared.Next.{Next as LevelNext}
@@ -39,7 +38,7 @@ use Rattle.chain.specs.Answer.{nonSpeech, answerOf}
 use Rattle.chain.specs.Calls.{informed, Stepped, stepped, Called, refused, called}
 use Rattle.chain.specs.Held.{HeldChain, HeldFigures, Ready}
 use Rattle.chain.specs.Laws.Passing.{Passed, passed-all}
-use Rattle.chain.specs.Laws.Steps.{level-is, heard, safe, info, heard-figures, safe-figures, info-accepted, gain-done, controller-is, frame-is, stepped-ready, stepped-full-scale}
+use Rattle.chain.specs.Laws.Steps.{level-is, heard, safe, info, heard-figures, safe-figures, info-accepted, controller-is, frame-is, stepped-ready, stepped-full-scale}
 use Rattle.chain.specs.declared.Chain.{Chain}
 use Rattle.chain.specs.declared.Figures.{Figures}
 

@@ -7,7 +7,7 @@ use Prim.Native.Nat.{ℕ, zero, suc}
 use lib.Dec.{T, eqb}
 use lib.IntN.{pos}
 use lib.ListN.{length, take, drop}
-use lib.Ieee.{Float, nan, binary32, fits, ofBits, add, mul, lt, eq}
+use lib.Ieee.{Float, nan, binary32, fits, ofBits, add, lt, eq}
 use lib.Ieee.Bits.{ofBits-fits}
 use lib.Ieee.Fits.{mul-fits}
 use Rattle.lists.specs.Each.{Each, each-drop, each-append}

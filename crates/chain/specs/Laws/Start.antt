@@ -12,6 +12,7 @@ use Rattle.units.specs.Figures as Range
 use Rattle.units.specs.Replies.{done, refusal}
 use Rattle.units.specs.Settings as Settings
 use Rattle.units.specs.declared.settings.Settings.{Settings as Set}
+use Rattle.saturation_protector_buffer.specs.Laws.Tests.{each as both}
 use Rattle.frames.specs.Shape.{isSamples}
 use Rattle.frames.specs.Facts.{and-first, and-second}
 use Rattle.speech_level_estimator.specs.Estimator as Level
@@ -49,9 +50,6 @@ unrefused b h = ap (λ (x : Bool). refusal true x true true) h
 shaped : (b : Bool) → b ≡ true → refusal b true true true ≡ done
 unfolding refusal
 shaped b h = ap (λ (x : Bool). refusal x true true true) h
-
-both : {a b : Bool} → a ≡ true → b ≡ true → a && b ≡ true
-both p q = rw (p, q)
 
 -- ---- the four parts
 initial-headroom : Range.headroom initial ≡ true

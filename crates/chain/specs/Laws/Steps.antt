@@ -1,15 +1,15 @@
 -- Where a chain that passes takes a frame no part of it refuses, the chain passes again, and what comes out is of full scale. Laws.
 -- Assumes nothing.
 use mathlib.Core.Path.{_≡_, refl, sym, ap, ap₂, _∙_, subst}
-use mathlib.Core.Bool.{Bool, true, false, _&&_, cond}
+use mathlib.Core.Bool.{Bool, true, cond}
 use mathlib.Core.List.{List}
 use Prim.Native.Nat.{ℕ}
 use lib.Dec.{T, eqb}
-use lib.ListN.{length}
 use lib.Ieee.{Float, binary32, fits, eq}
 use Rattle.floats.specs.Laws.Kinds.{passed as so}
 use Rattle.units.specs.Figures as Range
 use Rattle.units.specs.Replies.{done, refusal}
+use Rattle.saturation_protector_buffer.specs.Laws.Tests.{each as both}
 use Rattle.frames.specs.Shape.{isShape}
 use Rattle.frames.specs.Samples.{largestInput, largestLevel, allWithin}
 use Rattle.frames.specs.Facts.{Taken, taken, not-refused}
@@ -23,8 +23,6 @@ use Rattle.speech_level_estimator.specs.Held.{HeldEstimator}
 use Rattle.speech_level_estimator.specs.Laws.Facts as LevelFacts
 use Rattle.speech_level_estimator.specs.Laws.Again as LevelAgain
 use Rattle.speech_level_estimator.specs.declared.Estimator.{Estimator}
-use Rattle.speech_level_estimator.specs.declared.Next.{Next as LevelNext}
-use Rattle.saturation_protector.specs.Peaks as Peaks
 use Rattle.saturation_protector.specs.Protector as Headroom
 use Rattle.saturation_protector.specs.Calls as Headrooms
 use Rattle.saturation_protector.specs.Laws.Again as HeadroomAgain
@@ -51,9 +49,6 @@ use Rattle.chain.specs.Laws.Frames.{either, applied-held, applied-long}
 use Rattle.chain.specs.Laws.Passing.{Passed, passed-all, passing, Inside, inside, published-level}
 use Rattle.chain.specs.declared.Chain.{Chain}
 use Rattle.chain.specs.declared.Figures.{Figures}
-
-both : {a b : Bool} → a ≡ true → b ≡ true → a && b ≡ true
-both p q = rw (p, q)
 
 fine : (a b : Bool) → a ≡ true → b ≡ true → refusal true a b true ≡ done
 unfolding refusal
