@@ -2,8 +2,8 @@
 -- changed run is open. Laws, over what is known of a step: that a chain which passes and takes an event passes again.
 -- Assumes nothing.
 use mathlib.Core.Path.{_≡_, refl, sym, ap, subst, _∙_}
-use mathlib.Core.Logic.{_⊎_, inl, inr}
-use mathlib.Core.Bool.{Bool, true, false, _&&_, cond, false≢true}
+use mathlib.Core.Logic.{inl, inr}
+use mathlib.Core.Bool.{Bool, true, false, _&&_, false≢true}
 use mathlib.Core.List.{List, [], _∷_}
 use Prim.Native.Nat.{ℕ, _<_}
 use lib.ListN.{length}
@@ -12,11 +12,10 @@ use Rattle.lists.specs.Each.{Each}
 use Rattle.frames.specs.Shape.{isShape}
 use Rattle.frames.specs.Samples.{largestInput, allWithin}
 use Rattle.frames.specs.Facts.{and-first, and-second}
-use Rattle.chain.specs.Chain.{accepted, samplesOf}
+use Rattle.chain.specs.Chain.{accepted}
 use Rattle.chain.specs.Calls.{Called, Stepped}
 use Rattle.chain.specs.declared.Chain.{Chain}
-use Rattle.chain.specs.declared.Figures.{Figures}
-use Rattle.histories.specs.Histories.{Sound, Event, frame, figuresOf, soundOf, isSpeech, stepOf, takes, callOf, next, Published, publishedBy, published}
+use Rattle.histories.specs.Histories.{Event, frame, stepOf, takes, callOf, next, Published, publishedBy, published}
 use Rattle.histories.specs.Accepted.{HeldEvent, Accepted, ReadyAt}
 use Rattle.histories.specs.Changes.{Silenced, Changed, grown, isChanged, opens, States}
 use Rattle.histories.specs.Laws.Steps.{Same}

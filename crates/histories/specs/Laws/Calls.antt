@@ -1,9 +1,7 @@
 -- The call of an event is its step, where a chain that passes takes the event; where it does not, the call changes nothing. Laws.
 -- Assumes nothing.
-use mathlib.Core.Path.{_≡_, refl, sym, ap, _∙_}
-use mathlib.Core.Bool.{Bool, true, false, _&&_, cond, false≢true}
-use mathlib.Core.List.{List}
-use Prim.Native.Nat.{ℕ}
+use mathlib.Core.Path.{_≡_, refl, sym}
+use mathlib.Core.Bool.{Bool, true, false, _&&_, false≢true}
 use native.Mathlib.Omega.{arith}
 use lib.Dec.{eqb}
 use lib.ListN.{length}
@@ -12,10 +10,8 @@ use Rattle.units.specs.Replies.{done, refusal}
 use Rattle.frames.specs.Shape.{isShape}
 use Rattle.frames.specs.Samples.{largestInput, allWithin}
 use Rattle.frames.specs.Refusal.{frameRefusal}
-use Rattle.frames.specs.Facts.{and-first, and-second}
-use Rattle.chain.specs.Answer.{nonSpeech}
 use Rattle.chain.specs.Chain.{accepted, passes, samplesOf}
-use Rattle.chain.specs.Calls.{Called, Stepped, stepped, refused, called}
+use Rattle.chain.specs.Calls.{Called, Stepped, refused, called}
 use Rattle.chain.specs.declared.Chain.{Chain}
 use Rattle.histories.specs.Histories.{Sound, Event, frame, stepOf, takes, callOf}
 

@@ -1,15 +1,15 @@
 -- What every chain from a new one on keeps, whatever frames come: the counts of its parts go by the run of speech frames alone. Laws.
 -- Assumes nothing.
-use mathlib.Core.Path.{_≡_, refl, sym, ap, subst, _∙_}
-use mathlib.Core.Bool.{Bool, true, false, cond, false≢true}
+use mathlib.Core.Path.{_≡_, refl, sym, ap, _∙_}
+use mathlib.Core.Bool.{Bool, true, false, cond}
 use mathlib.Core.List.{List}
-use Prim.Native.Nat.{ℕ, _+_, _-_, _≤_, _<_}
+use Prim.Native.Nat.{ℕ, _+_, _-_, _<_}
 use native.Mathlib.Omega.{arith}
 use lib.Dec.{ltb}
 use lib.Ieee.{Float}
 use borrow.Author.Tests.{ltb-true, ltb-false}
 use Rattle.units.specs.declared.settings.Settings.{Settings}
-use Rattle.runs.specs.Runs.{Run, speech, longer, framed}
+use Rattle.runs.specs.Runs.{speech, longer}
 use Rattle.runs.specs.Histories.{Settled}
 use Rattle.runs.specs.Laws.Counts.{held, held-longer, held-below, held-at}
 use Rattle.runs.specs.Laws.Short.{framed-settled}
@@ -21,11 +21,10 @@ use Rattle.saturation_protector.specs.Protector as Headroom
 use Rattle.adaptive_digital_gain_controller.specs.Change.{waits}
 use Rattle.adaptive_digital_gain_controller.specs.Controller as Gain
 use Rattle.adaptive_digital_gain_controller.specs.Calls.{with-applier}
-use Rattle.limiter.specs.Limiter as Limiting
 use Rattle.chain.specs.Calls.{informed, stepped, fresh}
 use Rattle.chain.specs.declared.Chain.{Chain}
 use Rattle.chain.specs.declared.Figures.{Figures}
-use Rattle.histories.specs.Laws.Parts.{LevelBeside, HeadroomBeside, GainBeside, shownLevel, shownHeadroom, headroomOf}
+use Rattle.histories.specs.Laws.Parts.{shownLevel, shownHeadroom, headroomOf}
 use Rattle.histories.specs.Laws.Steps.{Beside, updated-count, analyzed-count}
 
 -- its parts have one threshold, and where no run is open their two states are alike

@@ -3,9 +3,9 @@
 -- Assumes nothing.
 use mathlib.Core.Path.{_≡_, refl, sym, ap, subst, _∙_}
 use mathlib.Core.Logic.{_⊎_, inl, inr}
-use mathlib.Core.Bool.{Bool, true, false, _&&_, _||_, cond, false≢true}
-use mathlib.Core.List.{List, [], _∷_}
-use Prim.Native.Nat.{ℕ, suc, _+_, _≤_, _<_}
+use mathlib.Core.Bool.{Bool, true, false, _&&_, _||_}
+use mathlib.Core.List.{List, _∷_}
+use Prim.Native.Nat.{ℕ, suc, _+_, _<_}
 use native.Mathlib.Omega.{arith}
 use lib.Dec.{ltb}
 use borrow.Author.Tests.{ltb-true}
@@ -47,10 +47,6 @@ short t k e es h =
 
 same-itself : (x : Stepped) → Same x x
 same-itself x = record { level = refl; confident = refl; headroom = refl; gain = refl; frame = refl }
-
--- a result of a step to both
-Result : ℕ → ℕ → Bool → List Event → Stepped → Stepped → Type 0
-Result t k o es x y = Same x y × Close t k o es (x .chain) (y .chain)
 
 module _ (t : ℕ) (two : 1 < t) where
   -- one more frame of a run that will be closed below the threshold: the second chain may get another one

@@ -1,14 +1,14 @@
 -- What a frame does to each part of a chain, where no run reaches the threshold by it: nothing new is published, and the gain does not rise. Laws.
 -- Assumes nothing.
-use mathlib.Core.Path.{_≡_, refl, sym, ap, subst, _∙_}
-use mathlib.Core.Bool.{Bool, true, false, _&&_, _||_, cond, false≢true}
-use Prim.Native.Nat.{ℕ, suc, _+_, _-_, _≤_, _<_}
+use mathlib.Core.Path.{_≡_, refl, sym, ap, _∙_}
+use mathlib.Core.Bool.{Bool, true, false, _||_, false≢true}
+use Prim.Native.Nat.{ℕ, _+_, _-_, _≤_, _<_}
 use native.Mathlib.Omega.{arith}
-use lib.Dec.{leb, ltb, eqb}
+use lib.Dec.{eqb}
 use lib.Ieee.{Float, binary32, add}
 use borrow.Author.Tests.{lt-leb, ne-eqb}
 use Rattle.units.specs.declared.settings.Settings.{Settings}
-use Rattle.runs.specs.Runs.{Run, speech, framed, published}
+use Rattle.runs.specs.Runs.{speech, published}
 use Rattle.runs.specs.Histories.{Frame, Shown, showing}
 use Rattle.runs.specs.Laws.Near.{Near, near-stays, near-closed}
 use Rattle.speech_level_estimator.specs.Average as Average

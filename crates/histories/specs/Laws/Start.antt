@@ -2,13 +2,11 @@
 -- Assumes nothing.
 use mathlib.Core.Path.{_≡_, refl, sym, ap, subst, _∙_}
 use mathlib.Core.Logic.{_⊎_, inl, inr}
-use mathlib.Core.Bool.{Bool, true, false, cond}
 use Prim.Native.Nat.{ℕ, _+_, _-_, _*_, _≤_, _<_}
 use native.Mathlib.Omega.{arith}
-use lib.Dec.{T, ltb}
-use lib.Ieee.{Float, binary32, ofBits, div, lt}
+use lib.Ieee.{Float, binary32, ofBits, div}
 use borrow.Author.Tests.{le-ltb}
-use Rattle.rounding.specs.Units.{U, limit, size, P, N, rnd, Number, Value, In, Rounding}
+use Rattle.rounding.specs.Units.{U, size, P, N, rnd, Number, In, Rounding}
 use Rattle.rounding.specs.Laws.Rnd.{rnd-same, rnd-zero}
 use Rattle.rounding.specs.Laws.Whole.{U-pos, limit-pos, N-kept, N-limit, sides}
 use Rattle.rounding.specs.Laws.Operations.{div-rounds, change}

@@ -1,13 +1,13 @@
 -- One event to two chains that differ only in a run below the threshold: what comes out is the same, and once the run is closed so are the chains. Laws.
 -- Assumes nothing.
-use mathlib.Core.Path.{_≡_, refl, sym, ap, subst, _∙_}
-use mathlib.Core.Bool.{Bool, true, false, _&&_, _||_, cond, false≢true}
+use mathlib.Core.Path.{_≡_, refl, sym, ap, _∙_}
+use mathlib.Core.Bool.{Bool, true, false, cond, false≢true}
 use mathlib.Core.List.{List}
 use Prim.Native.Nat.{ℕ, _+_, _-_, _≤_, _<_}
 use native.Mathlib.Omega.{arith}
 use lib.Dec.{eqb}
 use lib.Ieee.{Float}
-use Rattle.runs.specs.Runs.{Run, speech, longer, framed}
+use Rattle.runs.specs.Runs.{speech, longer}
 use Rattle.runs.specs.Laws.Counts.{longer-below, framed-count}
 use Rattle.speech_level_estimator.specs.Average as Average
 use Rattle.speech_level_estimator.specs.Estimator as Level
@@ -25,10 +25,10 @@ use Rattle.limiter.specs.Limiter as Limiting
 use Rattle.limiter.specs.declared.Limiter.{Limiter}
 use Rattle.chain.specs.Answer.{answerOf}
 use Rattle.chain.specs.Calls.{informed, Stepped, stepped}
-use Rattle.histories.specs.Histories.{Sound, Event, frame}
+use Rattle.histories.specs.Histories.{frame}
 use Rattle.chain.specs.declared.Chain.{Chain}
 use Rattle.chain.specs.declared.Figures.{Figures}
-use Rattle.histories.specs.Laws.Parts.{LevelBeside, level-stays, level-closes, level-published, trusted-below, HeadroomBeside, headroom-stays, headroom-closes, GainBeside, InfoBeside, gain-stays, gain-closes}
+use Rattle.histories.specs.Laws.Parts.{LevelBeside, level-stays, level-closes, trusted-below, HeadroomBeside, headroom-stays, headroom-closes, GainBeside, InfoBeside, gain-stays, gain-closes}
 
 -- ---- what an update leaves of the estimator, and an analysis of the protector
 pub updated-count : (e : Estimator) (r p : Float) → Level.updated e r p .count ≡ cond (speech p) (longer (e .threshold) (e .count)) 0

@@ -4,15 +4,12 @@
 use mathlib.Core.Path.{_≡_, refl, sym, ap, subst, _∙_}
 use mathlib.Core.Bool.{Bool, true, false, _&&_, cond}
 use mathlib.Core.List.{List, [], _∷_}
-use Prim.Native.Nat.{ℕ, _+_, _*_, _≤_, _<_}
+use Prim.Native.Nat.{ℕ, _<_}
 use native.Mathlib.Omega.{arith}
-use lib.Dec.{T, leb}
+use lib.Dec.{leb}
 use lib.ListN.{length}
-use lib.Ieee.{Float, binary32, ofBits}
 use borrow.Author.Tests.{leb-true}
 use Rattle.lists.specs.Each.{Each}
-use Rattle.rounding.specs.Units.{U, P, N, In}
-use Rattle.rounding.specs.Laws.Whole.{U-pos}
 use Rattle.floats.specs.Laws.Kinds.{passed as holds}
 use Rattle.units.specs.Replies.{done, refusal}
 use Rattle.units.specs.Settings as Settings
@@ -22,17 +19,15 @@ use Rattle.frames.specs.Samples.{largestInput, allWithin}
 use Rattle.frames.specs.Facts.{and-first, and-second}
 use Rattle.speech_level_estimator.specs.Average as Level
 use Rattle.speech_level_estimator.specs.Estimator.{startingLevel}
-use Rattle.speech_level_estimator.specs.Held as LevelHeld
 use Rattle.speech_level_estimator.specs.Laws.Level.{starting-level-in, wider}
 use Rattle.adaptive_digital_gain_controller.specs.Range.{HeldSettings}
 use Rattle.limiter.specs.Scale.{FullScale}
-use Rattle.chain.specs.Chain.{accepted, passes, samplesOf}
-use Rattle.chain.specs.Held.{Ready}
-use Rattle.chain.specs.Calls.{Called, Stepped, stepped, refused, fresh, made}
+use Rattle.chain.specs.Chain.{accepted, passes}
+use Rattle.chain.specs.Calls.{refused, fresh, made}
 use Rattle.chain.specs.declared.Chain.{Chain}
 use Rattle.chain.specs.Laws.Steps.{stepped-ready, stepped-samples, stepped-full-scale}
 use Rattle.chain.specs.Laws.Start.{made-fresh, made-ready, made-samples}
-use Rattle.histories.specs.Histories.{Event, frame, figuresOf, soundOf, stepOf, takes, callOf, next, after, onlyTaken, Published, publishedBy, published}
+use Rattle.histories.specs.Histories.{Event, frame, figuresOf, stepOf, takes, next, after, onlyTaken, Published, publishedBy, published}
 use Rattle.histories.specs.Accepted.{HeldEvent, Accepted, ReadyAt}
 use Rattle.histories.specs.Changes.{Changed, States}
 use Rattle.histories.specs.Average.{averageLevel}

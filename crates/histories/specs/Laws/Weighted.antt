@@ -1,7 +1,7 @@
 -- The published level after any history of accepted calls is the weighted average over the initial level and the frames that count. Laws, over what is
 -- known of a step: that a chain which passes and takes an event passes again.
 -- Assumes nothing.
-use mathlib.Core.Path.{_≡_, refl, sym, ap, subst, _∙_}
+use mathlib.Core.Path.{_≡_, refl, sym, ap, _∙_}
 use mathlib.Core.Bool.{Bool, true, false, cond}
 use mathlib.Core.List.{List, [], _∷_, _++_, map}
 use Prim.Native.Nat.{ℕ, _≤_}
@@ -15,13 +15,12 @@ use Rattle.runs.specs.Laws.Published.{published-after}
 use Rattle.speech_level_estimator.specs.Average as Level
 use Rattle.speech_level_estimator.specs.Estimator as Estimators
 use Rattle.speech_level_estimator.specs.declared.Average.{Average}
-use Rattle.speech_level_estimator.specs.declared.Estimator.{Estimator}
 use Rattle.chain.specs.Calls.{stepped, fresh}
 use Rattle.chain.specs.declared.Chain.{Chain}
 use Rattle.histories.specs.Histories.{Event, frame, figuresOf, isSpeech, stepOf, next, after}
 use Rattle.histories.specs.Accepted.{Accepted, ReadyAt}
 use Rattle.histories.specs.Average.{weighted, averageLevel}
-use Rattle.histories.specs.Laws.Parts.{shownLevel, levelFrame, withLevel, updated-is}
+use Rattle.histories.specs.Laws.Parts.{shownLevel, levelFrame}
 use Rattle.histories.specs.Laws.Agree.{next-is, next-ready}
 
 -- an event as the run of the level meets it
