@@ -85,6 +85,23 @@ same "replay: the controller refuses a frame of no sample with 1" 00000001 \
     "$({ echo "$flat"; known 1 0; } | replay | tail -n 1 | cut -d' ' -f1)"
 same "replay: more samples than the controller's frame can have are no question" "?" "$(known 8 3841 | replay)"
 
+# The paper's worked records, over silent frames of one channel: no speech, a cough, no speech, and a reading.
+record() { # PROBABILITY RMS PEAK
+    printf 'chain.step 00000001 000001e0 %s %s %s c2b40000 c2b40000' "$1" "$2" "$3"
+    yes ' 00000000' | head -n 480 | tr -d '\n'
+    echo
+}
+same "replay: the paper's five records are N, W, N, W and P, and the cough moves neither level nor gain" \
+    "[0 c2200000 41700000] [1 c2200000 41700000] [0 c2200000 41700000] [1 c2200000 41700000] [2 c2200000]" \
+    "$({
+        echo "chain.new 40a00000 42480000 41700000 40c00000 c2480000 00000002 000001e0"
+        record 00000000 c2700000 c2700000
+        record 3f800000 c1200000 c0a00000
+        record 00000000 c2700000 c2700000
+        record 3f800000 c2200000 00000000
+        record 3f800000 c2200000 00000000
+    } | replay | sed 1d | cut -d' ' -f3,7,10 | sed 's/^0000000//; s/^2 \([^ ]*\) .*/2 \1/; s/.*/[&]/' | paste -sd' ')"
+
 same "replay: an empty line is no question" "?" "$(echo | replay)"
 
 same "replay: a line that is cut is no question" "[$ten] [?]" "$(printf 'ratio 41a00000\nratio 41a0' | answers)"

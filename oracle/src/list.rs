@@ -3,13 +3,13 @@
 //! this program writes them.
 
 use crate::drive::Pair;
-use crate::{applier, controller, curve, estimator, limiter, protector, ratio, ring, speech};
+use crate::{applier, chain, controller, curve, estimator, limiter, protector, ratio, ring, speech};
 
 /// The seed of the list's random questions.
 const SEED: u64 = 1;
 
 /// Lines that are no question: each is answered ?.
-const NOT_ASKED: [&str; 56] = [
+const NOT_ASKED: [&str; 59] = [
     "",
     " ",
     ".",
@@ -66,6 +66,9 @@ const NOT_ASKED: [&str; 56] = [
     "controller.new 40a00000 42480000 41700000 40c00000 c2480000",
     "controller.process 00000001 00000028",
     "controller.process 00000001 00000028 3f800000 c2200000 00000001 c2b40000 41a00000",
+    "chain",
+    "chain.new 40a00000 42480000 41700000 40c00000 c2480000 00000002",
+    "chain.step 00000001 00000028 3f800000 c2200000 c1a00000 c2b40000",
 ];
 
 /// The questions with their answers. The last line is cut: it has no line feed.
@@ -85,6 +88,7 @@ fn list() -> Result<Vec<Pair>, String> {
     unlike.extend(speech::list(SEED, &mut to));
     unlike.extend(protector::list(SEED, &mut to));
     unlike.extend(controller::list(SEED, &mut to));
+    unlike.extend(chain::list(SEED, &mut to));
     for line in NOT_ASKED {
         to(line.to_string(), "?".to_string());
     }

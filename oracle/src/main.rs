@@ -9,6 +9,7 @@
 //! its lines in `parts` and in list.rs.
 
 mod applier;
+mod chain;
 mod controller;
 mod curve;
 mod drive;
@@ -85,6 +86,7 @@ fn parts(seed: u64, long: bool) -> Vec<Box<dyn Part>> {
         Box::new(speech::Speeches::new(seed, long)),
         Box::new(protector::Protectors::new(seed, long)),
         Box::new(controller::Controllers::new(seed, long)),
+        Box::new(chain::Chains::new(seed, long)),
     ]
 }
 

@@ -15,7 +15,7 @@ digit() { # PLACE LINE LONGER
     echo "awk -v at=$1 'NR > $2 && length(\$0) > $3 && !done { done = 1; new = substr(\$0, at, 1) == \"0\" ? \"1\" : \"0\"; \$0 = substr(\$0, 1, at - 1) new substr(\$0, at + 1) } { print }'"
 }
 
-for part in ratio ring curve estimator applier limiter speech protector controller; do
+for part in ratio ring curve estimator applier limiter speech protector controller chain; do
     refusal=2
     case $part in estimator | limiter) refusal=3 ;; esac
     same "$part: the comparison finds nothing where nothing is altered" 0 "$(through "$part" cat)"
@@ -49,6 +49,11 @@ same "controller: it finds a factor that is altered" 1 "$(through controller "$(
 same "controller: it finds a waiting count that is altered" 1 "$(through controller "$(figure 13 400 400)")"
 same "controller: it finds a gain that is altered" 1 "$(through controller "$(figure 14 400 400)")"
 same "controller: it finds a sample that is altered in its last place" 1 "$(through controller "$(figure 36 400 400)")"
+same "chain: it finds a case that is altered" 1 "$(through chain "$(figure 2 400 400)")"
+same "chain: it finds a published level that is altered" 1 "$(through chain "$(figure 6 400 400)")"
+same "chain: it finds a published headroom that is altered" 1 "$(through chain "$(figure 7 400 400)")"
+same "chain: it finds a gain that is altered" 1 "$(through chain "$(figure 9 400 400)")"
+same "chain: it finds a sample that is altered in its last place" 1 "$(through chain "$(figure 36 400 400)")"
 same "the comparison finds that nothing is answered" 1 "$(through ratio 'cat >/dev/null')"
 same "the comparison finds that the program fails" 1 "$(through ratio 'cat; exit 3')"
 same "the comparison finds that the program takes no question" 1 "$(through curve 'true')"
@@ -84,7 +89,7 @@ slip adaptive_digital_gain_controller 'first_confident_speech_frame = self.frame
 mkdir "$room/other" && cp -r oracle "$room/other"
 SONORA_SRC=$room/source "$room/other/oracle/build" >/dev/null 2>&1
 slipped() { "$room/other/target/oracle/oracle" compare --only "$1" --short -- tests/run-program replay >/dev/null 2>&1; echo $?; }
-for part in speech protector controller; do
+for part in speech protector controller chain; do
     same "$part: it finds a slip in the Rust" 1 "$(slipped "$part")"
 done
 same "ratio: where the Rust has no slip, it finds none" 0 "$(slipped ratio)"

@@ -36,8 +36,6 @@ const SET: u32 = 33;
 
 pub const PROCESS: u32 = 34;
 
-pub const LAST: u32 = 35;
-
 // What is known of a frame, whose figures stand at a place.
 fn info(all: &[u32], from: usize) -> Info {
     Info {
@@ -51,7 +49,7 @@ fn info(all: &[u32], from: usize) -> Info {
 }
 
 // The controller whose figures stand at a place.
-fn read(all: &[u32], from: usize) -> Controller {
+pub(crate) fn read(all: &[u32], from: usize) -> Controller {
     Controller {
         applier: applier::read(all, from),
         settings: speech::settings(all, wrapping_add_usize(from, 5)),
@@ -86,7 +84,7 @@ fn shown(controller: Controller) -> [u32; 15] {
 }
 
 // Leaves a controller's figures on the desk, and answers the reply.
-fn leave(desk: &mut [u32], reply: u32, controller: Controller) -> u32 {
+pub(crate) fn leave(desk: &mut [u32], reply: u32, controller: Controller) -> u32 {
     let all = shown(controller);
     figures::put(desk, FROM, &all);
     reply

@@ -13,7 +13,7 @@
 //
 // A frame is asked about by NAME CHANNELS SAMPLES and then any number of sample figures up to 3840, so
 // that frames of a wrong length can be asked about too. The controller has six more figures before the
-// samples.
+// samples, and the chain five.
 //
 // The desk is figures in a row: those of the question, how many results there are, the results, and
 // then each part's state with what is shown behind it, as it is answered.
@@ -31,6 +31,7 @@ use crate::protector;
 use crate::ratio;
 use crate::ring;
 use crate::speech;
+use crate::whole;
 use std::num::wrapping_add_usize;
 
 // Where the figures of the question stand, and how many there are at most but for samples.
@@ -48,12 +49,12 @@ pub const NO_QUESTION: u32 = 4294967295;
 
 // The number of a line's name, in the list of all names. Before each name stands how many figures it
 // takes, as a digit in which a is 10, or a star where it takes a frame, or a plus where it takes one with
-// six figures more. A line that is no name with its figures has the number after the last.
+// six figures more, or a minus where it takes one with five more. A line that is no name with its figures has the number after the last.
 fn word_of(line: &[u8], asked: Asked) -> u32 {
     lines::number_of(
         line,
         asked,
-        b"1ratio 0ring.new 6ring.set 1ring.push 0ring.reset 0ring.keep 0curve.new ccurve.set 1curve.level 0curve.stats 1estimator.new 3estimator.set 1estimator.samples 0estimator.reset *estimator.level 2applier.new 5applier.set 1applier.factor *applier.apply 1limiter.new glimiter.set 1limiter.samples 0limiter.reset *limiter.process 6speech.new gspeech.set 2speech.update 0speech.reset 2protector.new mprotector.set 3protector.analyze 0protector.reset 6controller.new econtroller.set +controller.process ",
+        b"1ratio 0ring.new 6ring.set 1ring.push 0ring.reset 0ring.keep 0curve.new ccurve.set 1curve.level 0curve.stats 1estimator.new 3estimator.set 1estimator.samples 0estimator.reset *estimator.level 2applier.new 5applier.set 1applier.factor *applier.apply 1limiter.new glimiter.set 1limiter.samples 0limiter.reset *limiter.process 6speech.new gspeech.set 2speech.update 0speech.reset 2protector.new mprotector.set 3protector.analyze 0protector.reset 6controller.new econtroller.set +controller.process 7chain.new -chain.step ",
     )
 }
 
@@ -102,11 +103,13 @@ fn place_of(word: u32) -> Place {
             from: protector::FROM,
             size: protector::SHOWN,
         }
-    } else {
+    } else if word < whole::FIRST {
         Place {
             from: controller::FROM,
             size: controller::SHOWN,
         }
+    } else {
+        Place { from: 0, size: 0 }
     }
 }
 
@@ -116,17 +119,20 @@ fn is_sound(word: u32) -> bool {
         | (word == applier::APPLY)
         | (word == limits::PROCESS)
         | (word == controller::PROCESS)
+        | (word == whole::STEP)
 }
 
 // How many figures stand before a frame's samples.
 fn before(word: u32) -> usize {
-    numbers::pick(word == controller::PROCESS, 8, 2)
+    let few = numbers::pick(word == whole::STEP, 7, 2);
+    numbers::pick(word == controller::PROCESS, 8, few)
 }
 
 // How many bytes of a line stand between its name and those samples, each figure with its space, and the
 // space before the first sample.
 fn bytes_before(word: u32) -> usize {
-    numbers::pick(word == controller::PROCESS, 73, 19)
+    let few = numbers::pick(word == whole::STEP, 64, 19);
+    numbers::pick(word == controller::PROCESS, 73, few)
 }
 
 // Asks the part, which leaves its figures on the desk, and answers the reply.
@@ -147,8 +153,10 @@ fn of_part(word: u32, desk: &mut [u32], frame: &mut [f32]) -> u32 {
         speech::answer(word, desk)
     } else if word < controller::FIRST {
         protector::answer(word, desk)
-    } else if word < controller::LAST {
+    } else if word < whole::FIRST {
         controller::answer(word, desk, frame)
+    } else if word < whole::LAST {
+        whole::answer(word, desk, frame)
     } else {
         NO_QUESTION
     }

@@ -44,7 +44,7 @@ const RESET: u32 = 22;
 pub const PROCESS: u32 = 23;
 
 // The limiter whose figures stand at a place.
-fn read(all: &[u32], from: usize) -> Limiter {
+pub(crate) fn read(all: &[u32], from: usize) -> Limiter {
     Limiter {
         estimator: estimator::read(all, wrapping_add_usize(from, 1)),
         curve: curve::read(all, wrapping_add_usize(from, 4)),
@@ -65,7 +65,7 @@ fn rest(limiter: Limiter) -> [u32; 3] {
 
 // Leaves a limiter's figures on the desk, and answers the reply. What is shown of a part behind its
 // state is overwritten by what comes next.
-fn leave(desk: &mut [u32], reply: u32, limiter: Limiter) -> u32 {
+pub(crate) fn leave(desk: &mut [u32], reply: u32, limiter: Limiter) -> u32 {
     let estimator = limiter.estimator;
     let curve = limiter.curve;
     let last = rest(limiter);

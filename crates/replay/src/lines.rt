@@ -56,12 +56,15 @@ pub(crate) fn split(line: &[u8]) -> Asked {
 pub const MOST: usize = 3840;
 
 // Whether so many figures are as many as a byte of a list says: a digit, in which a is 10, or a star
-// for a frame, which is two figures and its samples, or a plus for one with six figures more.
+// for a frame, which is two figures and its samples, or a plus for one with six figures more, or a minus
+// for one with five more.
 fn is_due(count: usize, byte: u8) -> bool {
     if byte == b'*' {
         (2 <= count) & (count <= MOST + 2)
     } else if byte == b'+' {
         (8 <= count) & (count <= MOST + 8)
+    } else if byte == b'-' {
+        (7 <= count) & (count <= MOST + 7)
     } else if count < 10 {
         48 + count as u8 == byte
     } else if count < 32 {

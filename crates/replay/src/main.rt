@@ -17,6 +17,7 @@ mod protector;
 mod ratio;
 mod ring;
 mod speech;
+mod whole;
 
 ghost use Rattle.io.specs.Counts.{Counts};
 

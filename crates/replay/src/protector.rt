@@ -53,7 +53,7 @@ fn peaks(all: &[u32], from: usize) -> Peaks {
 }
 
 // The protector whose figures stand at a place.
-fn read(all: &[u32], from: usize) -> Protector {
+pub(crate) fn read(all: &[u32], from: usize) -> Protector {
     Protector {
         initial: figures::float(all, from, 0),
         threshold: figures::word(all, from, 1),
@@ -103,7 +103,7 @@ fn rest(protector: Protector) -> [u32; 3] {
 }
 
 // Leaves a protector's figures on the desk, and answers the reply.
-fn leave(desk: &mut [u32], reply: u32, protector: Protector) -> u32 {
+pub(crate) fn leave(desk: &mut [u32], reply: u32, protector: Protector) -> u32 {
     let start = first(protector);
     let preliminary = shown(protector.preliminary);
     let reliable = shown(protector.reliable);

@@ -56,7 +56,7 @@ fn average(all: &[u32], from: usize) -> Average {
 }
 
 // The estimator whose figures stand at a place.
-fn read(all: &[u32], from: usize) -> Estimator {
+pub(crate) fn read(all: &[u32], from: usize) -> Estimator {
     Estimator {
         settings: settings(all, from),
         threshold: figures::word(all, from, 5),
@@ -103,7 +103,7 @@ fn shown(estimator: Estimator) -> [u32; 21] {
 }
 
 // Leaves an estimator's figures on the desk, and answers the reply.
-fn leave(desk: &mut [u32], reply: u32, estimator: Estimator) -> u32 {
+pub(crate) fn leave(desk: &mut [u32], reply: u32, estimator: Estimator) -> u32 {
     let all = shown(estimator);
     figures::put(desk, FROM, &all);
     reply
