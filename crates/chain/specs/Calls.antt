@@ -21,9 +21,10 @@ use Rattle.adaptive_digital_gain_controller.specs.declared.Info.{Info}
 use Rattle.gain_applier.specs.Applier as Applying
 use Rattle.limiter.specs.Limiter as Limiting
 use Rattle.chain.specs.Answer.{Said, said, nonSpeech, answerOf}
-use Rattle.chain.specs.Chain.{initial, accepted, passes, samplesOf}
+use Rattle.units.specs.Figures.{accepted}
+use Rattle.chain.specs.Chain.{initial, passes, samplesOf}
 use Rattle.chain.specs.declared.Chain.{Chain}
-use Rattle.chain.specs.declared.Figures.{Figures}
+use Rattle.units.specs.declared.figures.Figures.{Figures}
 use Rattle.chain.specs.declared.Made.{Made}
 use Rattle.chain.specs.declared.Next.{Next}
 

@@ -3,22 +3,16 @@ use mathlib.Core.Bool.{Bool, _&&_}
 use Prim.Native.Nat.{ℕ}
 use lib.Dec.{eqb}
 use lib.Ieee.{Float, binary32, ofBits, eq}
-use Rattle.units.specs.Figures.{probability, rms, level, envelope}
 use Rattle.units.specs.declared.settings.Settings.{Settings}
 use Rattle.speech_level_estimator.specs.Estimator as Level
 use Rattle.saturation_protector.specs.Protector as Headroom
 use Rattle.adaptive_digital_gain_controller.specs.Controller as Gain
 use Rattle.limiter.specs.Limiter as Limiting
 use Rattle.chain.specs.declared.Chain.{Chain}
-use Rattle.chain.specs.declared.Figures.{Figures}
 
 -- "initial headroom 20"
 abbrev pub initial : Float
 initial = ofBits binary32 0x41a0_0000
-
--- a frame's figures are in their ranges
-unfoldable pub accepted : Figures → Bool
-accepted f = probability (f .probability) && rms (f .rms .0) && level (f .peak .0) && level (f .noise .0) && envelope (f .envelope .0)
 
 -- equal settings, each as a float
 unfoldable pub alike : Settings → Settings → Bool

@@ -10,7 +10,7 @@ use Rattle.saturation_protector.specs.declared.Protector.{Protector}
 use Rattle.adaptive_digital_gain_controller.specs.Range.{HeldState}
 use Rattle.chain.specs.Chain.{passes}
 use Rattle.chain.specs.declared.Chain.{Chain}
-use Rattle.chain.specs.declared.Figures.{Figures}
+use Rattle.units.specs.declared.figures.Figures.{Figures}
 
 pub record HeldProtector (s : Protector) : Type 0 where
   pub headroom : T (fits binary32 (s .headroom))

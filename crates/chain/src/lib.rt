@@ -5,7 +5,7 @@ ghost use mathlib.Core.Path.{_≡_};
 ghost use mathlib.Core.Bool.{cond};
 ghost use Rattle.units.specs.Replies.{done};
 ghost use Rattle.limiter.specs.Scale.{FullScale};
-ghost use Rattle.chain.specs.Chain.{accepted, alike, passes};
+ghost use Rattle.chain.specs.Chain.{alike, passes};
 ghost use Rattle.chain.specs.Answer.{answerOf, said};
 ghost use Rattle.chain.specs.Calls.{made, told, called};
 use adaptive_digital_gain_controller::Controller;
@@ -13,6 +13,7 @@ use adaptive_digital_gain_controller::Info;
 use limiter::Limiter;
 use saturation_protector::Protector;
 use speech_level_estimator::Estimator;
+use units::figures::Figures;
 use units::kinds::Db;
 use units::kinds::Dbfs;
 use units::replies::DONE;
@@ -21,16 +22,6 @@ use units::settings::Settings;
 
 // The headroom that a chain starts with.
 const INITIAL: f32 = 20.0;
-
-// What was metered of a frame: the probability of speech, the rms level, the peak, the level of the noise,
-// and the limiter's envelope.
-pub struct Figures {
-    pub probability: f32,
-    pub rms: Dbfs,
-    pub peak: Dbfs,
-    pub noise: Dbfs,
-    pub envelope: Dbfs,
-}
 
 // The four parts.
 pub struct Chain {
@@ -93,19 +84,6 @@ fn answer_of(speech: bool, threshold: u32, count: u32, level: f32, headroom: f32
         }
     } else {
         Answer::NonSpeech
-    }
-}
-
-impl Figures {
-    // Whether each figure lies in its range.
-    fn accepted(self) -> bool
-        ensures { λ r. ⌜ r ≡ accepted self ⌝ }
-    {
-        units::figures::is_probability(self.probability)
-            & units::figures::is_rms(Dbfs(self.rms.0))
-            & units::figures::is_level(Dbfs(self.peak.0))
-            & units::figures::is_level(Dbfs(self.noise.0))
-            & units::figures::is_envelope(Dbfs(self.envelope.0))
     }
 }
 

@@ -8,7 +8,7 @@ use Prim.Native.Nat.{ℕ, suc, _+_}
 use lib.Dec.{ltb}
 use Rattle.chain.specs.declared.Chain.{Chain}
 use Rattle.histories.specs.Histories.{Event, isSpeech, figuresOf, soundOf, next}
-use Rattle.chain.specs.Chain.{accepted}
+use Rattle.units.specs.Figures.{accepted}
 
 -- how many speech frames come first
 unfoldable pub ahead : List Event → ℕ

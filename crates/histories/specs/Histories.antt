@@ -8,10 +8,10 @@ use lib.Ieee.{Float}
 use Rattle.frames.specs.Shape.{isShape}
 use Rattle.frames.specs.Samples.{largestInput, allWithin}
 use Rattle.runs.specs.Runs.{speech}
-use Rattle.chain.specs.Chain.{accepted}
+use Rattle.units.specs.Figures.{accepted}
 use Rattle.chain.specs.Calls.{Stepped, stepped, Called, called}
 use Rattle.chain.specs.declared.Chain.{Chain}
-use Rattle.chain.specs.declared.Figures.{Figures}
+use Rattle.units.specs.declared.figures.Figures.{Figures}
 
 -- a frame of sound: the lent buffer, its channels and their samples
 pub record Sound : Type 0 where

@@ -47,13 +47,13 @@ fn shown(applier: Applier) -> [u32; 8] {
     let told = applier.get_gain_factor();
     [
         numbers::flag(applier.clip),
-        words::bits_of(applier.last),
-        words::bits_of(applier.current),
+        bits::bits_of(applier.last),
+        bits::bits_of(applier.current),
         numbers::unsigned32(applier.samples),
-        words::bits_of(applier.inverse),
+        bits::bits_of(applier.inverse),
         numbers::flag(applier.passes()),
         told.reply,
-        words::bits_of(told.factor),
+        bits::bits_of(told.factor),
     ]
 }
 

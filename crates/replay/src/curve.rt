@@ -62,7 +62,7 @@ fn shown(curve: Curve, gain: f32) -> [u32; 14] {
         numbers::high(lasts),
         numbers::low(lasts),
         numbers::flag(curve.passes()),
-        words::bits_of(gain),
+        bits::bits_of(gain),
     ]
 }
 

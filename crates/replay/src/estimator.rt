@@ -49,12 +49,12 @@ fn shown(estimator: Estimator) -> [u32; 6] {
     let heard = estimator.last_audio_level();
     let level = heard.level;
     [
-        words::bits_of(estimator.level),
+        bits::bits_of(estimator.level),
         numbers::low(estimator.samples as u64),
         numbers::low(estimator.part as u64),
         numbers::flag(estimator.passes()),
         heard.reply,
-        words::bits_of(level.0),
+        bits::bits_of(level.0),
     ]
 }
 

@@ -16,7 +16,7 @@ pub(crate) fn word(all: &[u32], from: usize, i: usize) -> u32 {
 
 // The same, as a float.
 pub(crate) fn float(all: &[u32], from: usize, i: usize) -> f32 {
-    words::float_of(word(all, from, i))
+    bits::float_of(word(all, from, i))
 }
 
 // The same, as a count.
@@ -59,7 +59,7 @@ pub(crate) fn put(all: &mut [u32], from: usize, some: &[u32]) {
 pub(crate) fn put_floats(all: &mut [u32], from: usize, some: &[f32]) {
     let mut i = 0;
     while i < some.len() {
-        store(all, wrapping_add_usize(from, i), words::bits_of(some[i]));
+        store(all, wrapping_add_usize(from, i), bits::bits_of(some[i]));
         i += 1;
     }
 }

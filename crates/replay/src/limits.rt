@@ -59,7 +59,7 @@ fn rest(limiter: Limiter) -> [u32; 3] {
     [
         numbers::flag(limiter.passes()),
         heard.reply,
-        words::bits_of(level.0),
+        bits::bits_of(level.0),
     ]
 }
 
@@ -69,7 +69,7 @@ pub(crate) fn leave(desk: &mut [u32], reply: u32, limiter: Limiter) -> u32 {
     let estimator = limiter.estimator;
     let curve = limiter.curve;
     let last = rest(limiter);
-    figures::store(desk, FROM, words::bits_of(limiter.carried));
+    figures::store(desk, FROM, bits::bits_of(limiter.carried));
     estimator::put(desk, ESTIMATOR, estimator);
     curve::put(desk, CURVE, curve, 0.0);
     figures::put(desk, REST, &last);

@@ -124,7 +124,7 @@ pub(crate) fn fill(line: &[u8], from: usize, frame: &mut [f32]) {
     let mut i = 0;
     while i < frame.len() {
         let figure = words::read(line, at);
-        frame[i] = words::float_of(figure.bits);
+        frame[i] = bits::float_of(figure.bits);
         at = wrapping_add_usize(at, 9);
         i += 1;
     }
@@ -166,7 +166,7 @@ pub(crate) fn put_samples(out: &mut [u8], at: usize, frame: &[f32]) -> usize {
     let mut to = at;
     let mut i = 0;
     while i < frame.len() {
-        to = put(out, to, words::bits_of(frame[i]));
+        to = put(out, to, bits::bits_of(frame[i]));
         i += 1;
     }
     to

@@ -69,14 +69,14 @@ fn shown(state: Peaks) -> [u32; 9] {
     let ring = state.ring;
     let stored = ring.stored;
     [
-        words::bits_of(state.headroom),
+        bits::bits_of(state.headroom),
         numbers::low(ring.place as u64),
         numbers::low(ring.size as u64),
-        words::bits_of(stored[0]),
-        words::bits_of(stored[1]),
-        words::bits_of(stored[2]),
-        words::bits_of(stored[3]),
-        words::bits_of(state.largest),
+        bits::bits_of(stored[0]),
+        bits::bits_of(stored[1]),
+        bits::bits_of(stored[2]),
+        bits::bits_of(stored[3]),
+        bits::bits_of(state.largest),
         state.elapsed,
     ]
 }
@@ -84,10 +84,10 @@ fn shown(state: Peaks) -> [u32; 9] {
 // The figures that are shown of a protector before the two states.
 fn first(protector: Protector) -> [u32; 4] {
     [
-        words::bits_of(protector.initial),
+        bits::bits_of(protector.initial),
         protector.threshold,
         protector.count,
-        words::bits_of(protector.headroom),
+        bits::bits_of(protector.headroom),
     ]
 }
 
@@ -98,7 +98,7 @@ fn rest(protector: Protector) -> [u32; 3] {
     [
         numbers::flag(protector.passes()),
         told.reply,
-        words::bits_of(headroom.0),
+        bits::bits_of(headroom.0),
     ]
 }
 

@@ -10,7 +10,7 @@ use units::kinds::Db;
 // Answers the question that lies on the desk.
 pub(crate) fn answer(desk: &mut [u32]) -> u32 {
     let a = decibels::ratio(Db(figures::float(desk, ASKED, 0)));
-    let told = [1, words::bits_of(a.ratio)];
+    let told = [1, bits::bits_of(a.ratio)];
     figures::put(desk, RESULTS, &told);
     a.reply
 }

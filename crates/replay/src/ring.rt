@@ -55,7 +55,7 @@ pub(crate) fn read(all: &[u32], from: usize) -> Ring {
 fn value(front: Front) -> u32 {
     match front {
         Front::None => 0,
-        Front::Oldest(x) => words::bits_of(x.0),
+        Front::Oldest(x) => bits::bits_of(x.0),
     }
 }
 
@@ -77,10 +77,10 @@ fn shown(ring: Ring, aside: Ring) -> [u32; 15] {
     [
         numbers::low(ring.place as u64),
         numbers::low(ring.size as u64),
-        words::bits_of(stored[0]),
-        words::bits_of(stored[1]),
-        words::bits_of(stored[2]),
-        words::bits_of(stored[3]),
+        bits::bits_of(stored[0]),
+        bits::bits_of(stored[1]),
+        bits::bits_of(stored[2]),
+        bits::bits_of(stored[3]),
         numbers::flag(ring.passes()),
         numbers::low(saturation_protector_buffer::capacity() as u64),
         oldest.reply,

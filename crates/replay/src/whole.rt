@@ -20,8 +20,8 @@ use crate::protector;
 use crate::speech;
 use chain::Answer;
 use chain::Chain;
-use chain::Figures;
 use std::num::wrapping_add_usize;
+use units::figures::Figures;
 use units::kinds::Dbfs;
 
 // Where the results stand on the desk: whether the chain passes, the case, and what stands in the chain.
@@ -69,8 +69,8 @@ fn case(answer: Answer) -> [u32; 4] {
         Answer::Publishing(level, headroom) => [
             2,
             0,
-            words::bits_of(level.0),
-            words::bits_of(headroom.0),
+            bits::bits_of(level.0),
+            bits::bits_of(headroom.0),
         ],
     }
 }
@@ -81,10 +81,10 @@ fn published(chain: Chain) -> [u32; 4] {
     let protector = chain.protector;
     let controller = chain.controller;
     [
-        words::bits_of(estimator.level),
-        words::bits_of(protector.headroom),
+        bits::bits_of(estimator.level),
+        bits::bits_of(protector.headroom),
         numbers::flag(estimator.confident),
-        words::bits_of(controller.gain),
+        bits::bits_of(controller.gain),
     ]
 }
 

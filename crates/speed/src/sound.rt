@@ -58,7 +58,7 @@ pub(crate) fn fill(frame: &mut [f32], seed: u64, loud: f32) -> u64 {
 
 // A digest with one more float: its bits are added after a turn by one place.
 pub(crate) fn mix(before: u32, x: f32) -> u32 {
-    wrapping_add_u32(before / 2 + before % 2 * 2147483648, words::bits_of(x))
+    wrapping_add_u32(before / 2 + before % 2 * 2147483648, bits::bits_of(x))
 }
 
 // A digest with all floats of a list.

@@ -1,8 +1,9 @@
 -- Document 01's table of figures, a line of it for each definition. A negative zero is allowed in a figure.
 -- Definitions only.
-use mathlib.Core.Bool.{Bool}
+use mathlib.Core.Bool.{Bool, _&&_}
 use lib.Ieee.{Float, binary32, ofBits}
 use Rattle.units.specs.Ranges.{closed, inside, above}
+use Rattle.units.specs.declared.figures.Figures.{Figures}
 
 -- "probability: 0 to 1"
 abbrev pub probability : Float → Bool
@@ -35,3 +36,7 @@ gainFactor x = inside (ofBits binary32 0x0000_0000) x (ofBits binary32 0x4400_00
 -- "gain in dB to be made a ratio: 0 to 51"
 abbrev pub gain : Float → Bool
 gain x = closed (ofBits binary32 0x0000_0000) x (ofBits binary32 0x424c_0000)
+
+-- a frame's figures are in their ranges
+unfoldable pub accepted : Figures → Bool
+accepted f = probability (f .probability) && rms (f .rms .0) && level (f .peak .0) && level (f .noise .0) && envelope (f .envelope .0)

@@ -1,11 +1,22 @@
-// The range of each figure, as a test. A negative zero is allowed wherever zero is.
+// The range of each figure, as a test, and the five figures that are metered of a frame. A negative zero is
+// allowed wherever zero is.
 
 ghost use mathlib.Core.Path.{_≡_};
 ghost use Rattle.units.specs.Ranges.{closed};
-ghost use Rattle.units.specs.Figures.{probability, rms, level, envelope, headroom, curveLevel, gainFactor, gain};
+ghost use Rattle.units.specs.Figures.{probability, rms, level, envelope, headroom, curveLevel, gainFactor, gain, accepted};
 use crate::kinds::Db;
 use crate::kinds::Dbfs;
 use crate::kinds::LinearS16;
+
+// What was metered of a frame: the probability of speech, the rms level, the peak, the level of the noise,
+// and the limiter's envelope.
+pub struct Figures {
+    pub probability: f32,
+    pub rms: Dbfs,
+    pub peak: Dbfs,
+    pub noise: Dbfs,
+    pub envelope: Dbfs,
+}
 
 // Whether low <= x <= high.
 fn is_closed(low: f32, x: f32, high: f32) -> bool
@@ -68,4 +79,17 @@ pub fn is_gain(x: Db) -> bool
     ensures { λ r. ⌜ r ≡ gain (x .0) ⌝ }
 {
     is_closed(0.0, x.0, 51.0)
+}
+
+impl Figures {
+    // Whether each figure lies in its range.
+    pub fn accepted(self) -> bool
+        ensures { λ r. ⌜ r ≡ accepted self ⌝ }
+    {
+        is_probability(self.probability)
+            & is_rms(Dbfs(self.rms.0))
+            & is_level(Dbfs(self.peak.0))
+            & is_level(Dbfs(self.noise.0))
+            & is_envelope(Dbfs(self.envelope.0))
+    }
 }

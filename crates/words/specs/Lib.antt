@@ -1,4 +1,3 @@
--- Figures in eight hexadecimal digits, the floats of their bits, and the law that what is written is read back.
+-- Figures in eight hexadecimal digits, and the law that what is written is read back.
 pub mod Hex
-pub mod Floats
 pub mod RoundTrip

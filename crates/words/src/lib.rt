@@ -5,10 +5,8 @@ ghost use mathlib.Core.Path.{_≡_};
 ghost use Prim.Native.Nat.{_+_, _<_, _≤_};
 ghost use lib.ListN.{length};
 ghost use lib.Seq.{paste};
-ghost use lib.Ieee.{binary32, nanBits};
 ghost use Rattle.io.specs.Digits.{glyph as Digits·glyph, digits};
 ghost use Rattle.words.specs.Hex.{digitOf, halfAt, wordAt, readAt, fits, putAt};
-ghost use Rattle.words.specs.Floats.{floatOf, patternOf};
 
 // Whether a byte is a hexadecimal digit in lower case, and what it is worth: 0 where it is none.
 pub struct Digit {
@@ -161,29 +159,4 @@ pub fn put(out: &mut [u8], at: usize, bits: u32) -> bool
     } else {
         false
     }
-}
-
-// Whether bits are those of a NaN.
-pub fn is_nan(bits: u32) -> bool
-    ensures { λ r. ⌜ r ≡ nanBits binary32 bits ⌝ }
-{
-    (bits % 2147483648 / 8388608 == 255) & (bits % 8388608 != 0)
-}
-
-// The float of bits; of a NaN's bits, whichever they are, a NaN, which is not made of them.
-pub fn float_of(bits: u32) -> f32
-    ensures { λ r. ⌜ r ≡ floatOf bits ⌝ }
-{
-    if is_nan(bits) {
-        0.0 / 0.0
-    } else {
-        f32::from_bits(bits)
-    }
-}
-
-// The bits of a float; of a NaN those with only the highest digit set.
-pub fn bits_of(x: f32) -> u32
-    ensures { λ r. ⌜ r ≡ patternOf x ⌝ }
-{
-    if x == x { f32::to_bits(x) } else { 2143289344 }
 }

@@ -33,14 +33,15 @@ use Rattle.limiter.specs.Limiter as Limiting
 use Rattle.limiter.specs.Scale.{FullScale}
 use Rattle.limiter.specs.declared.Limiter.{Limiter}
 use Rattle.limiter.specs.declared.Next.{Next as LimiterNext}
-use Rattle.chain.specs.Chain.{accepted, passes, samplesOf}
+use Rattle.units.specs.Figures.{accepted}
+use Rattle.chain.specs.Chain.{passes, samplesOf}
 use Rattle.chain.specs.Answer.{nonSpeech, answerOf}
 use Rattle.chain.specs.Calls.{informed, Stepped, stepped, Called, refused, called}
 use Rattle.chain.specs.Held.{HeldChain, HeldFigures, Ready}
 use Rattle.chain.specs.Laws.Passing.{Passed, passed-all}
 use Rattle.chain.specs.Laws.Steps.{level-is, heard, safe, info, heard-figures, safe-figures, info-accepted, controller-is, frame-is, stepped-ready, stepped-full-scale}
 use Rattle.chain.specs.declared.Chain.{Chain}
-use Rattle.chain.specs.declared.Figures.{Figures}
+use Rattle.units.specs.declared.figures.Figures.{Figures}
 
 -- the first three tests decide where one of them fails; where all pass, the samples do
 early : (shape setting figure sample : Bool) → (refusal shape setting figure true ≡ done → ⊥) → refusal shape setting figure sample ≡ refusal shape setting figure true

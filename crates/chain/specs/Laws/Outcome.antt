@@ -13,7 +13,7 @@ use Rattle.chain.specs.Calls.{Told, made, told, called}
 use Rattle.chain.specs.declared.Answer.{Answer}
 use Rattle.chain.specs.declared.Answer.the-variants.{NonSpeech, Waiting, Publishing}
 use Rattle.chain.specs.declared.Chain.{Chain}
-use Rattle.chain.specs.declared.Figures.{Figures}
+use Rattle.units.specs.declared.figures.Figures.{Figures}
 use Rattle.chain.specs.declared.Made.{Made}
 use Rattle.chain.specs.declared.Next.{Next}
 

@@ -19,9 +19,10 @@ use Rattle.adaptive_digital_gain_controller.specs.Controller as Gain
 use Rattle.adaptive_digital_gain_controller.specs.Range.{HeldSettings}
 use Rattle.adaptive_digital_gain_controller.specs.Laws.Boxes.{is-true, closed-box, in-settings}
 use Rattle.limiter.specs.Limiter as Limiting
-use Rattle.chain.specs.Chain.{initial, accepted, alike, passes}
+use Rattle.units.specs.Figures.{accepted}
+use Rattle.chain.specs.Chain.{initial, alike, passes}
 use Rattle.chain.specs.declared.Chain.{Chain}
-use Rattle.chain.specs.declared.Figures.{Figures}
+use Rattle.units.specs.declared.figures.Figures.{Figures}
 
 -- what a chain that passes has passed
 pub record Passed (c : Chain) : Type 0 where

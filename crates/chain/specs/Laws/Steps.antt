@@ -42,13 +42,14 @@ use Rattle.limiter.specs.Limiter as Limiting
 use Rattle.limiter.specs.Scale as Scale
 use Rattle.limiter.specs.Laws.States as LimiterStates
 use Rattle.limiter.specs.declared.Limiter.{Limiter}
-use Rattle.chain.specs.Chain.{initial, accepted, alike, passes, samplesOf}
+use Rattle.units.specs.Figures.{accepted}
+use Rattle.chain.specs.Chain.{initial, alike, passes, samplesOf}
 use Rattle.chain.specs.Calls.{informed, stepped, refused}
 use Rattle.chain.specs.Held.{HeldProtector, HeldFigures, Ready}
 use Rattle.chain.specs.Laws.Frames.{either, applied-held, applied-long}
 use Rattle.chain.specs.Laws.Passing.{Passed, passed-all, passing, Inside, inside, published-level}
 use Rattle.chain.specs.declared.Chain.{Chain}
-use Rattle.chain.specs.declared.Figures.{Figures}
+use Rattle.units.specs.declared.figures.Figures.{Figures}
 
 fine : (a b : Bool) → a ≡ true → b ≡ true → refusal true a b true ≡ done
 unfolding refusal

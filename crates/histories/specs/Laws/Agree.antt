@@ -12,7 +12,7 @@ use Rattle.lists.specs.Each.{Each}
 use Rattle.frames.specs.Shape.{isShape}
 use Rattle.frames.specs.Samples.{largestInput, allWithin}
 use Rattle.frames.specs.Facts.{and-first, and-second}
-use Rattle.chain.specs.Chain.{accepted}
+use Rattle.units.specs.Figures.{accepted}
 use Rattle.chain.specs.Calls.{Called, Stepped}
 use Rattle.chain.specs.declared.Chain.{Chain}
 use Rattle.histories.specs.Histories.{Event, frame, stepOf, takes, callOf, next, Published, publishedBy, published}

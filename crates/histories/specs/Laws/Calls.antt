@@ -10,7 +10,8 @@ use Rattle.units.specs.Replies.{done, refusal}
 use Rattle.frames.specs.Shape.{isShape}
 use Rattle.frames.specs.Samples.{largestInput, allWithin}
 use Rattle.frames.specs.Refusal.{frameRefusal}
-use Rattle.chain.specs.Chain.{accepted, passes, samplesOf}
+use Rattle.units.specs.Figures.{accepted}
+use Rattle.chain.specs.Chain.{passes, samplesOf}
 use Rattle.chain.specs.Calls.{Called, Stepped, refused, called}
 use Rattle.chain.specs.declared.Chain.{Chain}
 use Rattle.histories.specs.Histories.{Sound, Event, frame, stepOf, takes, callOf}

@@ -23,7 +23,7 @@ use Rattle.adaptive_digital_gain_controller.specs.Controller as Gain
 use Rattle.adaptive_digital_gain_controller.specs.Calls.{with-applier}
 use Rattle.chain.specs.Calls.{informed, stepped, fresh}
 use Rattle.chain.specs.declared.Chain.{Chain}
-use Rattle.chain.specs.declared.Figures.{Figures}
+use Rattle.units.specs.declared.figures.Figures.{Figures}
 use Rattle.histories.specs.Laws.Parts.{shownLevel, shownHeadroom, headroomOf}
 use Rattle.histories.specs.Laws.Steps.{Beside, updated-count, analyzed-count}
 

@@ -15,7 +15,7 @@ use Rattle.chain.specs.Calls.{Stepped, stepped}
 use Rattle.histories.specs.Histories.{Sound, Event, frame, figuresOf, soundOf, isSpeech, stepOf}
 use Rattle.histories.specs.Changes.{ahead, ends, grown, inShort, Silenced, isChanged, opens}
 use Rattle.chain.specs.declared.Chain.{Chain}
-use Rattle.chain.specs.declared.Figures.{Figures}
+use Rattle.units.specs.declared.figures.Figures.{Figures}
 use Rattle.histories.specs.Laws.Steps.{Beside, Same, step-stays, step-same, step-closes}
 use Rattle.histories.specs.Laws.Ground.{Good, step-good, closed-good, good-beside, beside-ground}
 

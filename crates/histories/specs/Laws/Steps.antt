@@ -27,7 +27,7 @@ use Rattle.chain.specs.Answer.{answerOf}
 use Rattle.chain.specs.Calls.{informed, Stepped, stepped}
 use Rattle.histories.specs.Histories.{frame}
 use Rattle.chain.specs.declared.Chain.{Chain}
-use Rattle.chain.specs.declared.Figures.{Figures}
+use Rattle.units.specs.declared.figures.Figures.{Figures}
 use Rattle.histories.specs.Laws.Parts.{LevelBeside, level-stays, level-closes, trusted-below, HeadroomBeside, headroom-stays, headroom-closes, GainBeside, InfoBeside, gain-stays, gain-closes}
 
 -- ---- what an update leaves of the estimator, and an analysis of the protector

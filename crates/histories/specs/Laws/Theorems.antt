@@ -22,7 +22,8 @@ use Rattle.speech_level_estimator.specs.Estimator.{startingLevel}
 use Rattle.speech_level_estimator.specs.Laws.Level.{starting-level-in, wider}
 use Rattle.adaptive_digital_gain_controller.specs.Range.{HeldSettings}
 use Rattle.limiter.specs.Scale.{FullScale}
-use Rattle.chain.specs.Chain.{accepted, passes}
+use Rattle.units.specs.Figures.{accepted}
+use Rattle.chain.specs.Chain.{passes}
 use Rattle.chain.specs.Calls.{refused, fresh, made}
 use Rattle.chain.specs.declared.Chain.{Chain}
 use Rattle.chain.specs.Laws.Steps.{stepped-ready, stepped-samples, stepped-full-scale}

@@ -8,7 +8,8 @@ use Rattle.units.specs.Replies.{done, refusal}
 use Rattle.frames.specs.Shape.{isShape}
 use Rattle.gain_applier.specs.Range.{Held}
 use Rattle.chain.specs.Answer.{Said, said, answerOf}
-use Rattle.chain.specs.Chain.{accepted, passes}
+use Rattle.units.specs.Figures.{accepted}
+use Rattle.chain.specs.Chain.{passes}
 use Rattle.chain.specs.Calls.{informed, Told, told, Called}
 use Rattle.chain.specs.Held.{HeldChain, HeldFigures}
 use Rattle.chain.specs.Laws.Calls.{built, refused-early, refused-late, accepted-late, late-full-scale}

@@ -1,8 +1,8 @@
--- `chain::Figures::accepted` meets its contract: test by test. Assumes nothing.
-use Rattle.chain.specs.Chain.{accepted}
+-- `units::figures::Figures::accepted` meets its contract: test by test. Assumes nothing.
+use Rattle.units.specs.Figures.{accepted}
 use borrow.Author.Needs.{needs}
-use Rattle.chain.proofs.Figures.accepted.Statement.{statement}
-use Rattle.chain.proofs.Figures.accepted.Tie as tie
+use Rattle.units.proofs.figures.Figures.accepted.Statement.{statement}
+use Rattle.units.proofs.figures.Figures.accepted.Tie as tie
 
 is-probability-requires : tie.Need-is-probability-requires
 is-probability-requires c κs = search needs

@@ -1,10 +1,10 @@
--- `words::float_of` meets its contract: bits that are no NaN's make a float. Assumes nothing.
+-- `bits::float_of` meets its contract: bits that are no NaN's make a float. Assumes nothing.
 use mathlib.Core.Path.{_≡_, sym, _∙_}
 use borrow.Author.Needs.{needs}
 use lib.Ieee.{nanBits, ofBits, div}
-use Rattle.words.specs.Floats.{floatOf}
-use Rattle.words.proofs.float_of.Statement.{statement}
-use Rattle.words.proofs.float_of.Tie as tie
+use Rattle.bits.specs.Floats.{floatOf}
+use Rattle.bits.proofs.float_of.Statement.{statement}
+use Rattle.bits.proofs.float_of.Tie as tie
 
 is-nan-requires : tie.Need-is-nan-requires
 is-nan-requires c κs = search needs

@@ -1,11 +1,11 @@
--- `words::bits_of` meets its contract: a float that equals itself is no NaN. Assumes nothing.
+-- `bits::bits_of` meets its contract: a float that equals itself is no NaN. Assumes nothing.
 use mathlib.Core.Path.{_≡_, sym, subst}
 use mathlib.Core.Bool.{true, not}
 use lib.Dec.{T}
 use lib.Ieee.{Float, nan, inf, fin, eq, isNan}
-use Rattle.words.specs.Floats.{patternOf}
-use Rattle.words.proofs.bits_of.Statement.{statement}
-use Rattle.words.proofs.bits_of.Tie as tie
+use Rattle.bits.specs.Floats.{patternOf}
+use Rattle.bits.proofs.bits_of.Statement.{statement}
+use Rattle.bits.proofs.bits_of.Tie as tie
 
 no-nan : (x : Float) → eq x x ≡ true → T (not (isNan x))
 unfolding eq isNan
