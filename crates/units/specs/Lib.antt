@@ -3,3 +3,4 @@ pub mod Ranges
 pub mod Figures
 pub mod Settings
 pub mod Replies
+pub mod Output
