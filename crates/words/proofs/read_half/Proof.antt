@@ -1,5 +1,11 @@
 -- `words::read_half` meets its contract: four digits, each below 16. Assumes nothing.
-use Rattle.words.specs.Hex.{halfAt}
+use mathlib.Core.Bool.{_&&_}
+use mathlib.Core.List.{List}
+use mathlib.Core.Path.{_≡_}
+use Prim.Native.Nat.{ℕ, _+_, _*_, _<_}
+use Rattle.words.specs.Hex.{digitAt, halfAt}
+use Rattle.words.specs.declared.Digit.{Digit}
+use Rattle.words.specs.declared.Word.{Word}
 use borrow.Author.Needs.{needs}
 use native.Mathlib.Omega.{arith}
 use Rattle.words.proofs.read_half.Statement.{statement}
@@ -56,9 +62,27 @@ add-t20 c = search needs
 add-t21 : tie.Need-add-t21
 add-t21 c = search needs
 
-returns : tie.Need-returns
+-- the four digits make the number
+joined : (line : List ℕ) (at : ℕ) (a b c d : Digit) → a ≡ digitAt line at → b ≡ digitAt line (at + 1) → c ≡ digitAt line (at + 2) → d ≡ digitAt line (at + 3)
+    → _≡_ {A = Word}
+    (record { ok = a .ok && b .ok && c .ok && d .ok; bits = a .value * 4096 + b .value * 256 + c .value * 16 + d .value })
+    (halfAt line at)
 unfolding halfAt
-returns c = (cc, omega arith)
+joined line at a b c d e f g h = rw (e, f, g, h)
+
+-- and it is below 16 times 16 times 16 times 16
+bounded : {a b c d : ℕ} → a < 16 → b < 16 → c < 16 → d < 16 → a * 4096 + b * 256 + c * 16 + d < 65536
+bounded a b c d = omega arith
+
+returns : tie.Need-returns
+returns c =
+    let four = c .before .before .before .before .before .before .before .before in
+    let three = four .before .before in
+    let two = three .before .before in
+    let one = two .before .before in (
+      joined _ _ _ _ _ _ (one .read-digit .ensures .0) (two .read-digit2 .ensures .0) (three .read-digit3 .ensures .0) (four .read-digit4 .ensures .0),
+      bounded (one .read-digit .ensures .1) (two .read-digit2 .ensures .1) (three .read-digit3 .ensures .1) (four .read-digit4 .ensures .1),
+    )
 
 pub read-half-spec : {M : Type 1} → statement M
 read-half-spec =

@@ -1,5 +1,10 @@
 -- `words::read_word` meets its contract. Assumes nothing.
-use Rattle.words.specs.Hex.{wordAt}
+use mathlib.Core.Bool.{_&&_}
+use mathlib.Core.List.{List}
+use mathlib.Core.Path.{_≡_}
+use Prim.Native.Nat.{ℕ, _+_, _*_}
+use Rattle.words.specs.Hex.{halfAt, wordAt}
+use Rattle.words.specs.declared.Word.{Word}
 use borrow.Author.Needs.{needs}
 use Rattle.words.proofs.read_word.Statement.{statement}
 use Rattle.words.proofs.read_word.Tie as tie
@@ -19,9 +24,16 @@ mul-t7 c = search needs
 add-t8 : tie.Need-add-t8
 add-t8 c = search needs
 
-returns : tie.Need-returns
+-- the two halves make the word
+joined : (line : List ℕ) (at : ℕ) (high low : Word) → high ≡ halfAt line at → low ≡ halfAt line (at + 4)
+    → _≡_ {A = Word} (record { ok = high .ok && low .ok; bits = high .bits * 65536 + low .bits }) (wordAt line at)
 unfolding wordAt
-returns c = cc
+joined line at high low h l = rw (h, l)
+
+returns : tie.Need-returns
+returns c =
+    let low = c .before .before .before .before in
+    joined _ _ _ _ (low .before .read-half .ensures .0) (low .read-half2 .ensures .0)
 
 pub read-word-spec : {M : Type 1} → statement M
 read-word-spec =

@@ -1,12 +1,12 @@
 -- `Estimator::compute_level` meets its contract: where the reply is 0 the peaks are raised and smoothed, and the last value is the state. Assumes nothing.
 use mathlib.Core.Bool.{Bool, true}
 use mathlib.Core.List.{List}
-use mathlib.Core.Path.{_≡_, sym, ap, _∙_}
-use Prim.Native.Nat.{ℕ}
+use mathlib.Core.Path.{_≡_, sym, _∙_}
+use Prim.Native.Nat.{ℕ, _*_}
 use native.Mathlib.Omega.{arith}
 use lib.Dec.{eqb}
 use lib.Ieee.{Float, nan}
-use lib.ListN.{getD}
+use lib.ListN.{length, getD}
 use borrow.Author.Needs.{needs}
 use borrow.Author.Tests.{ne-eqb}
 use Rattle.units.specs.Replies.{done}
@@ -14,7 +14,7 @@ use Rattle.frames.specs.Refusal.{frameRefusal}
 use Rattle.frames.specs.Samples.{largestLevel}
 use Rattle.fixed_digital_level_estimator.specs.declared.Estimator.{Estimator}
 use Rattle.fixed_digital_level_estimator.specs.declared.Levels.{Levels}
-use Rattle.fixed_digital_level_estimator.specs.Envelope.{silence}
+use Rattle.fixed_digital_level_estimator.specs.Envelope.{silence, peaksOver, raised, smoothed}
 use Rattle.fixed_digital_level_estimator.specs.Estimator.{computed, envelopeOf, heardUpTo, passes}
 use Rattle.fixed_digital_level_estimator.specs.Laws.Lengths.{envelope-length, any-default}
 use Rattle.fixed_digital_level_estimator.specs.Laws.Accepted.{accepted}
@@ -30,20 +30,28 @@ abbrev refused : Estimator → List Float → ℕ → ℕ → ℕ
 refused e frame channels samples = frameRefusal frame channels samples (eqb samples (e .samples)) (passes e) true largestLevel
 
 -- with what the test of the state gave
-with-state : (e : Estimator) (frame : List Float) (channels samples : ℕ) {ok : Bool} → ok ≡ passes e
-    → frameRefusal frame channels samples (eqb samples (e .samples)) ok true largestLevel ≡ refused e frame channels samples
-with-state e frame channels samples h = ap (λ (b : Bool). frameRefusal frame channels samples (eqb samples (e .samples)) b true largestLevel) h
+module _ (e : Estimator) (frame : List Float) (channels samples : ℕ) (ok : Bool) (reply : ℕ) (o : ok ≡ passes e) (r : reply ≡ frameRefusal frame channels samples (eqb samples (e .samples)) ok true largestLevel) where
+  is : reply ≡ refused e frame channels samples
+  is = rw (← o) r
 
-module _ (e : Estimator) (frame : List Float) (channels samples reply : ℕ) (is : reply ≡ refused e frame channels samples) where
-  -- an accepted frame
-  accepts : (envelope : List Float) → reply ≡ done → envelope ≡ envelopeOf e channels frame
+  -- an accepted frame has the shape that its peaks ask for
+  shaped : reply ≡ done → (length frame ≡ channels * samples) × (samples ≡ 20 * e .part)
+  shaped d =
+      let a = accepted e frame channels samples (sym is ∙ d) in
+      (a .size, a .parts)
+
+  -- its answer
+  accepts : (peaks high envelope : List Float) → reply ≡ done → peaks ≡ peaksOver channels samples (e .part) silence frame → high ≡ raised peaks
+      → envelope ≡ smoothed (e .level) high
       → _≡_ {A = Levels} (record { reply = reply; estimator = record { level = getD envelope 19 nan; samples = e .samples; part = e .part }; envelope = envelope }) (computed e frame channels samples)
-  unfolding computed heardUpTo
-  accepts envelope d h =
+  unfolding computed heardUpTo envelopeOf
+  accepts peaks high envelope d p h s =
+      let same = accepted e frame channels samples (sym is ∙ d) .same in
+      let whole : envelope ≡ envelopeOf e channels frame = rw (s, h, p, same) in
       let all = envelope-length e channels frame in
-      rw (← is, d, h, any-default (envelopeOf e channels frame) 19 nan (e .level) (omega arith))
+      rw (← is, d, whole, any-default (envelopeOf e channels frame) 19 nan (e .level) (omega arith))
 
-  -- a refused one
+  -- the answer to a refused one
   refuses : (reply ≡ done → ⊥) → _≡_ {A = Levels} (record { reply = reply; estimator = e; envelope = silence }) (computed e frame channels samples)
   unfolding computed
   refuses d = rw (← is, ne-eqb reply done d)
@@ -62,11 +70,7 @@ refusal-requires : tie.Need-refusal-requires
 refusal-requires c κs = search needs
 
 frame-peaks-requires : tie.Need-frame-peaks-requires
-frame-peaks-requires c κs =
-    let args = c .before .before .before .before .args in
-    let known = sym (c .before .refusal .ensures ∙ with-state (args .self) (args .frame .now) (args .channels) (args .samples) (c .before .before .passes .ensures)) in
-    let a = accepted (args .self) (args .frame .now) (args .channels) (args .samples) (known ∙ c .if1 .taken) in
-    (a .size, a .parts)
+frame-peaks-requires c κs = shaped _ _ _ _ _ _ (c .before .before .passes .ensures) (c .before .refusal .ensures) (c .if1 .taken)
 
 raise-requires : tie.Need-raise-requires
 raise-requires c κs = search needs
@@ -78,21 +82,13 @@ array-read-last : tie.Need-array-read-last
 array-read-last c = search needs
 
 returns : tie.Need-returns
-unfolding envelopeOf
 returns c =
-    let args = c .before .before .before .before .before .before .before .args in
-    let refusal = c .before .before .before .before .refusal in
-    let passes = c .before .before .before .before .before .passes in
-    let taken = c .before .before .before .if1 .taken in
-    let is = refusal .ensures ∙ with-state (args .self) (args .frame .now) (args .channels) (args .samples) (passes .ensures) in
-    let a = accepted (args .self) (args .frame .now) (args .channels) (args .samples) (sym is ∙ taken) in
-    accepts (args .self) (args .frame .now) (args .channels) (args .samples) (refusal .result) is (c .smooth .result) taken (cc (a .same))
+    let told = c .before .before .before .before in
+    accepts _ _ _ _ _ _ (told .before .passes .ensures) (told .refusal .ensures) _ _ _ (c .before .before .before .if1 .taken)
+    (c .before .before .frame-peaks .ensures) (c .before .raise .ensures) (c .smooth .ensures)
 
 returns-2 : tie.Need-returns-2
-returns-2 c =
-    let args = c .before .before .before .before .args in
-    let is = c .before .refusal .ensures ∙ with-state (args .self) (args .frame .now) (args .channels) (args .samples) (c .before .before .passes .ensures) in
-    refuses (args .self) (args .frame .now) (args .channels) (args .samples) (c .before .refusal .result) is (c .if1 .left)
+returns-2 c = refuses _ _ _ _ _ _ (c .before .before .passes .ensures) (c .before .refusal .ensures) (c .if1 .left)
 
 pub compute-level-spec : {M : Type 1} → statement M
 compute-level-spec =

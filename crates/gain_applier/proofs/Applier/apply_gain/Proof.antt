@@ -1,19 +1,23 @@
 -- `gain_applier::Applier::apply_gain` meets its contract: a frame that is not refused has the shape that the walk asks for. Assumes nothing.
-use mathlib.Core.Path.{_≡_, sym, ap, _∙_, subst}
-use mathlib.Core.Bool.{true}
+use mathlib.Core.Path.{_≡_, sym, _∙_}
+use mathlib.Core.Bool.{Bool, true}
+use mathlib.Core.List.{List}
 use Prim.Native.Nat.{ℕ, _*_, _^_, _≤_, _<_}
 use native.Mathlib.Omega.{arith}
 use borrow.Author.Tests.{ne-eqb}
-use lib.IntN.{pos}
+use lib.Ieee.{Float}
+use lib.IntN.{ℤ, pos}
 use lib.ListN.{length}
 use mir.Facts.{toZ-pos}
 use mir.Syntax.{w32}
-use mir.Val.{toZ}
 use Rattle.units.specs.Replies.{done}
 use Rattle.frames.specs.Facts.{Sizes, Taken, taken, shape-facts}
 use Rattle.frames.specs.Refusal.{frameRefusal}
 use Rattle.frames.specs.Samples.{largestInput}
 use Rattle.gain_applier.specs.Applier.{passes, applied, arrived, inverseOf}
+use Rattle.gain_applier.specs.Sound.{gained, finished}
+use Rattle.gain_applier.specs.declared.Applier.{Applier}
+use Rattle.gain_applier.specs.declared.Next.{Next}
 use borrow.Author.Needs.{needs}
 use Rattle.gain_applier.proofs.Applier.apply_gain.Statement.{statement}
 use Rattle.gain_applier.proofs.Applier.apply_gain.Tie as tie
@@ -59,29 +63,32 @@ cast-t12 c = record { sfits = narrow (facts (after c) .0 .each .most) }
 same-length : tie.Need-same-length
 same-length c = search needs
 
+-- the answer, with what the calls gave
+module _ (a : Applier) (frame : List Float) (channels samples : ℕ) (ok : Bool) (reply : ℕ) (p : ok ≡ passes a) (r : reply ≡ frameRefusal frame channels samples true ok true largestInput) where
+  applies : (z : ℤ) (inverse : Float) (louder ended : List Float) → reply ≡ done → z ≡ pos samples → inverse ≡ inverseOf z
+      → louder ≡ gained (a .last) (a .current) inverse channels samples frame → ended ≡ finished (a .clip) louder
+      → _≡_ {A = Next} (record { reply = reply; applier = record { clip = a .clip; last = a .current; current = a .current; samples = z; inverse = inverse } }) (applied a frame channels samples .next)
+      × (ended ≡ applied a frame channels samples .frame)
+  unfolding applied arrived
+  applies z inverse louder ended k e i g f = (rw (← p, ← r, k, i, e), rw (← p, ← r, k, f, g, i, e))
+
+  refuses : (reply ≡ done → ⊥)
+      → _≡_ {A = Next} (record { reply = reply; applier = a }) (applied a frame channels samples .next) × (frame ≡ applied a frame channels samples .frame)
+  unfolding applied
+  refuses d = (rw (← p, ← r, ne-eqb reply done d), rw (← p, ← r, ne-eqb reply done d))
+
 returns : tie.Need-returns
-unfolding applied
 returns c =
     let t = after c in
-    let p = t .before .before .before .passes .ensures in
-    let r = t .before .refusal .ensures in
-    let k = t .if1 .taken in
-    let i = c .before .before .before .before .before .before .before .before .inverse-of .ensures in
-    let z : toZ w32 (t .before .before .before .before .before .args .samples) ≡ pos (t .before .before .before .before .before .args .samples) = toZ-pos w32 (narrow (facts t .0 .each .most)) in
-    let g = c .before .before .before .before .before .before .put-gain .ensures in
-    let f = c .before .before .finish .ensures in
-    (rw (← p, ← r, k, i, z), rw (← p, ← r, k) (cc (z, i, g, f)))
+    applies _ _ _ _ _ _ (t .before .before .before .passes .ensures) (t .before .refusal .ensures) _ _ _ _ (t .if1 .taken)
+    (toZ-pos w32 (narrow (facts t .0 .each .most))) (c .before .before .before .before .before .before .before .before .inverse-of .ensures)
+    (c .before .before .before .before .before .before .put-gain .ensures) (c .before .before .finish .ensures)
 
 same-length-2 : tie.Need-same-length-2
 same-length-2 c = search needs
 
 returns-2 : tie.Need-returns-2
-unfolding applied
-returns-2 c =
-    let p = c .before .before .before .passes .ensures in
-    let r = c .before .refusal .ensures in
-    let k = ne-eqb (c .before .refusal .result) done (c .if1 .left) in
-    (rw (← p, ← r, k), rw (← p, ← r, k))
+returns-2 c = refuses _ _ _ _ _ _ (c .before .before .before .passes .ensures) (c .before .refusal .ensures) (c .if1 .left)
 
 pub apply-gain-spec : {M : Type 1} → statement M
 apply-gain-spec =

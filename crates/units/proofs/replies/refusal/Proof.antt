@@ -1,6 +1,9 @@
 -- `units::replies::refusal` meets its contract: one choice for each kind of input. Assumes nothing.
+use mathlib.Core.Bool.{Bool, cond}
+use mathlib.Core.Path.{_≡_}
+use Prim.Native.Nat.{ℕ}
 use borrow.Author.Needs.{needs}
-use Rattle.units.specs.Replies.{refusal}
+use Rattle.units.specs.Replies.{done, badShape, badFigure, badSample, badSetting, refusal}
 use Rattle.units.proofs.replies.refusal.Statement.{statement}
 use Rattle.units.proofs.replies.refusal.Tie as tie
 
@@ -16,9 +19,15 @@ pick-u32-requires-3 c κs = search needs
 pick-u32-requires-4 : tie.Need-pick-u32-requires-4
 pick-u32-requires-4 c κs = search needs
 
-returns : tie.Need-returns
+-- the definition, choice by choice
+chosen : (shape setting figure sample : Bool) (a b c d : ℕ) → a ≡ cond sample done badSample → b ≡ cond figure a badFigure → c ≡ cond setting b badSetting
+    → d ≡ cond shape c badShape → d ≡ refusal shape setting figure sample
 unfolding refusal
-returns c = cc
+chosen shape setting figure sample a b c d p q r s = rw (s, r, q, p)
+
+returns : tie.Need-returns
+returns c =
+    chosen _ _ _ _ _ _ _ _ (c .before .before .before .pick-u32 .ensures) (c .before .before .pick-u322 .ensures) (c .before .pick-u323 .ensures) (c .pick-u324 .ensures)
 
 pub refusal-spec : {M : Type 1} → statement M
 refusal-spec =

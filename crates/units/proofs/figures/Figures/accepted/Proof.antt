@@ -1,5 +1,8 @@
 -- `units::figures::Figures::accepted` meets its contract: test by test. Assumes nothing.
-use Rattle.units.specs.Figures.{accepted}
+use mathlib.Core.Bool.{Bool, _&&_}
+use mathlib.Core.Path.{_≡_}
+use Rattle.units.specs.Figures.{probability, rms, level, envelope, accepted}
+use Rattle.units.specs.declared.figures.Figures.{Figures}
 use borrow.Author.Needs.{needs}
 use Rattle.units.proofs.figures.Figures.accepted.Statement.{statement}
 use Rattle.units.proofs.figures.Figures.accepted.Tie as tie
@@ -19,9 +22,16 @@ is-level-requires-2 c κs = search needs
 is-envelope-requires : tie.Need-is-envelope-requires
 is-envelope-requires c κs = search needs
 
-returns : tie.Need-returns
+-- the definition, with what the tests gave
+all-five : (f : Figures) (a b c d e : Bool) → a ≡ probability (f .probability) → b ≡ rms (f .rms .0) → c ≡ level (f .peak .0) → d ≡ level (f .noise .0)
+    → e ≡ envelope (f .envelope .0) → a && b && c && d && e ≡ accepted f
 unfolding accepted
-returns c = cc
+all-five f a b c d e p r l n v = rw (p, r, l, n, v)
+
+returns : tie.Need-returns
+returns c =
+    all-five _ _ _ _ _ _ (c .before .before .before .before .is-probability .ensures) (c .before .before .before .is-rms .ensures) (c .before .before .is-level .ensures)
+    (c .before .is-level2 .ensures) (c .is-envelope .ensures)
 
 pub accepted-spec : {M : Type 1} → statement M
 accepted-spec =
