@@ -4,5 +4,6 @@ pub mod Target
 pub mod Change
 pub mod Factor
 pub mod States
+pub mod Waiting
 pub mod Calls
 pub mod Outcome

@@ -1,4 +1,12 @@
 -- `adaptive_digital_gain_controller::aimed` meets its contract. Assumes nothing.
+use mathlib.Core.Bool.{true}
+use mathlib.Core.Path.{_≡_}
+use lib.Ieee.{Float, binary32, ofBits, ne}
+use Rattle.decibels.specs.Ratio.{answer}
+use Rattle.decibels.specs.declared.Answer.{Answer}
+use Rattle.gain_applier.specs.Applier as Applier
+use Rattle.gain_applier.specs.declared.Applier.{Applier as Gain}
+use Rattle.gain_applier.specs.declared.Next.{Next}
 use Rattle.adaptive_digital_gain_controller.specs.Controller.{aimed}
 use borrow.Author.Needs.{needs}
 use Rattle.adaptive_digital_gain_controller.proofs.aimed.Statement.{statement}
@@ -10,9 +18,14 @@ ratio-requires c κs = search needs
 set-gain-factor-requires : tie.Need-set-gain-factor-requires
 set-gain-factor-requires c κs = search needs
 
-returns : tie.Need-returns
+-- the definition, where the gain changed
+aims : (applier : Gain) (change gain : Float) (found : Answer) (next : Next) → ne change (ofBits binary32 0x0000_0000) ≡ true → found ≡ answer gain
+    → next ≡ Applier.aimed applier (found .ratio) → next .applier ≡ aimed applier change gain
 unfolding aimed
-returns c = rw (c .before .before .before .if1 .taken) (cc)
+aims applier change gain found next t f n = rw (t, n, f)
+
+returns : tie.Need-returns
+returns c = aims _ _ _ _ _ (c .before .before .before .if1 .taken) (c .before .before .ratio .ensures) (c .before .set-gain-factor .ensures)
 
 returns-2 : tie.Need-returns-2
 unfolding aimed

@@ -21,6 +21,7 @@ use Rattle.saturation_protector.specs.Protector as Headroom
 use Rattle.adaptive_digital_gain_controller.specs.Change.{waits}
 use Rattle.adaptive_digital_gain_controller.specs.Controller as Gain
 use Rattle.adaptive_digital_gain_controller.specs.Calls.{with-applier}
+use Rattle.adaptive_digital_gain_controller.specs.Laws.Waiting.{closed-waits-again}
 use Rattle.chain.specs.Calls.{informed, stepped, fresh}
 use Rattle.chain.specs.declared.Chain.{Chain}
 use Rattle.units.specs.declared.figures.Figures.{Figures}
@@ -124,14 +125,13 @@ step-good t k c two h f buffer channels samples =
 -- After a non-speech frame no run is open, whatever the counts were.
 pub closed-good : (t : ℕ) (c : Chain) → 1 < t → Ground t c → (f : Figures) (buffer : List Float) (channels samples : ℕ) → speech (f .probability) ≡ false
     → Good t 0 (stepped c f buffer channels samples .chain)
-unfolding waits
 closed-good t c two h f buffer channels samples silent =
     let zero : 0 ≡ held t 0 = sym (held-below t 0 (omega (arith, two))) in
     record {
       ground = step-ground t c two h f buffer channels samples;
       level-count = level-counts t c two h f buffer channels samples ∙ rw silent zero;
       headroom-count = headroom-counts t c two h f buffer channels samples ∙ rw silent zero;
-      waiting = gain-waits t c two h f buffer channels samples ∙ rw silent (omega (arith, zero));
+      waiting = gain-waits t c two h f buffer channels samples ∙ closed-waits-again (speech (f .probability)) t (c .controller .waiting) silent ∙ omega (arith, zero);
     }
 
 -- A chain behind a run below the threshold is beside itself.

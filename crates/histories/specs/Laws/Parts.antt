@@ -1,7 +1,7 @@
 -- What a frame does to each part of a chain, where no run reaches the threshold by it: nothing new is published, and the gain does not rise. Laws.
 -- Assumes nothing.
 use mathlib.Core.Path.{_≡_, refl, sym, ap, _∙_}
-use mathlib.Core.Bool.{Bool, true, false, _||_, false≢true}
+use mathlib.Core.Bool.{Bool, true, false, _||_}
 use Prim.Native.Nat.{ℕ, _+_, _-_, _≤_, _<_}
 use native.Mathlib.Omega.{arith}
 use lib.Dec.{eqb}
@@ -23,6 +23,7 @@ use Rattle.gain_applier.specs.declared.Applier.{Applier}
 use Rattle.adaptive_digital_gain_controller.specs.Target.{target}
 use Rattle.adaptive_digital_gain_controller.specs.Change.{waits, increase, changed}
 use Rattle.adaptive_digital_gain_controller.specs.Controller as Gain
+use Rattle.adaptive_digital_gain_controller.specs.Laws.Waiting.{closed-waits-again}
 use Rattle.adaptive_digital_gain_controller.specs.declared.Info.{Info}
 use Rattle.adaptive_digital_gain_controller.specs.declared.Controller.{Controller}
 
@@ -228,11 +229,6 @@ lowered-beside t k p q s u c d x y v w m n applier settings change gain goal fir
       other = other;
     }
 
-silence-waits : (s : Bool) (t waiting : ℕ) → s ≡ false → waits s t waiting ≡ t
-unfolding waits
-silence-waits true t waiting e = absurd (false≢true (sym e))
-silence-waits false t waiting e = refl
-
 module _ (t k : ℕ) (a b : Controller) (i j : Info) (n : GainBeside t k a b) (same : InfoBeside i j) where
   wished : target (a .settings) (a .gain) i ≡ target (b .settings) (b .gain) j
   wished = rw (n .settings, n .gain) (same-target (b .settings) (b .gain) i j same)
@@ -251,6 +247,6 @@ module _ (t k : ℕ) (a b : Controller) (i j : Info) (n : GainBeside t k a b) (s
   -- After the same non-speech frame they are the same.
   pub gain-closes : speech (i .probability) ≡ false → speech (j .probability) ≡ false → 0 < t → Gain.decided a i ≡ Gain.decided b j
   gain-closes silent other some =
-      decided-is a i t t (n .first) (silence-waits (speech (i .probability)) t (a .waiting) silent) some
+      decided-is a i t t (n .first) (closed-waits-again (speech (i .probability)) t (a .waiting) silent) some
       ∙ rw (n .applier, n .settings, n .change, n .gain, same-target (b .settings) (b .gain) i j same) refl
-      ∙ sym (decided-is b j t t (n .second) (silence-waits (speech (j .probability)) t (b .waiting) other) some)
+      ∙ sym (decided-is b j t t (n .second) (closed-waits-again (speech (j .probability)) t (b .waiting) other) some)

@@ -57,8 +57,8 @@ other-unpublished s f h = rw h refl
 
 -- and closes the run.
 pub other-closed : (s : Protector) (f : Figures) → Other f → run (analyzed s (f .probability) (f .peak) (f .level)) ≡ closed (s .threshold) (run s)
-unfolding framed
-other-closed s f h = analyzed-run s (f .probability) (f .peak) (f .level) ∙ rw h refl
+unfolding analyzed framed
+other-closed s f h = rw h refl
 
 -- ---- a run of speech frames, and the frame that closes it
 module _ (s : Protector) (fs : List Figures) (f : Figures) (state : passes s ≡ true) (ranges : Each InRange fs) (range : InRange f) (speech : Each Speech fs) (other : Other f) where

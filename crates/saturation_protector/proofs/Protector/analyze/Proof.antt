@@ -1,7 +1,15 @@
 -- `saturation_protector::Protector::analyze` meets its contract: a frame that is not refused has a state that passes and a peak in its range. Assumes nothing.
-use mathlib.Core.Path.{sym, _∙_}
+use mathlib.Core.Bool.{Bool, true, false, _&&_}
+use mathlib.Core.Path.{_≡_, sym, _∙_}
+use Prim.Native.Nat.{ℕ}
+use lib.Ieee.{Float}
+use Rattle.units.specs.Figures.{probability, level}
+use Rattle.units.specs.Replies.{refusal}
 use Rattle.saturation_protector_buffer.specs.Laws.Tests.{both}
 use Rattle.saturation_protector.specs.Calls.{stepped}
+use Rattle.saturation_protector.specs.Protector.{passes, analyzed}
+use Rattle.saturation_protector.specs.declared.Protector.{Protector}
+use Rattle.saturation_protector.specs.declared.Next.{Next}
 use borrow.Author.Needs.{needs}
 use Rattle.saturation_protector.proofs.Protector.analyze.Statement.{statement}
 use Rattle.saturation_protector.proofs.Protector.analyze.Tie as tie
@@ -33,33 +41,28 @@ analyzed-requires c κs =
 unchanged-requires : tie.Need-unchanged-requires
 unchanged-requires c κs = search needs
 
+-- the answer, with what the calls gave
+module _ (s : Protector) (p peak speech : Float) (ok likely first second : Bool) (reply : ℕ) (o : ok ≡ passes s) (l : likely ≡ probability p) (f : first ≡ level peak) (g : second ≡ level speech) (r : reply ≡ refusal true ok (likely && first && second) true) where
+  taken : (next : Protector) → ok && (likely && first && second) ≡ true → next ≡ analyzed s p peak speech
+      → _≡_ {A = Next} (record { reply = reply; protector = next }) (stepped s p peak speech)
+  unfolding stepped
+  taken next t n = rw (n, r, ← o, ← l, ← f, ← g, t)
+
+  left : (next : Next) → ok && (likely && first && second) ≡ false → next ≡ record { reply = reply; protector = s } → next ≡ stepped s p peak speech
+  unfolding stepped
+  left next t n = rw (n, r, ← o, ← l, ← f, ← g, t)
+
 returns : tie.Need-returns
-unfolding stepped
 returns c =
     let tests = c .before .before .before in
-    rw (
-      c .analyzed .ensures,
-      c .before .before .refusal .ensures,
-      ← tests .before .before .before .passes .ensures,
-      ← tests .before .before .is-probability .ensures,
-      ← tests .before .is-level .ensures,
-      ← tests .is-level2 .ensures,
-      c .before .if1 .taken,
-    )
+    taken _ _ _ _ _ _ _ _ _ (tests .before .before .before .passes .ensures) (tests .before .before .is-probability .ensures) (tests .before .is-level .ensures)
+    (tests .is-level2 .ensures) (c .before .before .refusal .ensures) _ (c .before .if1 .taken) (c .analyzed .ensures)
 
 returns-2 : tie.Need-returns-2
-unfolding stepped
 returns-2 c =
     let tests = c .before .before .before in
-    rw (
-      c .unchanged .ensures,
-      c .before .before .refusal .ensures,
-      ← tests .before .before .before .passes .ensures,
-      ← tests .before .before .is-probability .ensures,
-      ← tests .before .is-level .ensures,
-      ← tests .is-level2 .ensures,
-      c .before .if1 .left,
-    )
+    left _ _ _ _ _ _ _ _ _ (tests .before .before .before .passes .ensures) (tests .before .before .is-probability .ensures) (tests .before .is-level .ensures)
+    (tests .is-level2 .ensures) (c .before .before .refusal .ensures) _ (c .before .if1 .left) (c .unchanged .ensures)
 
 pub analyze-spec : {M : Type 1} → statement M
 analyze-spec =
