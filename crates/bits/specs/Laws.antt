@@ -1,0 +1,2 @@
+-- The laws of the bits of floats.
+pub mod RoundTrip

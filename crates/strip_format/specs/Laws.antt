@@ -1,0 +1,9 @@
+-- The laws of the format: its steps, its fields, and of heads and records that what is written reads back, that what reads rewrites,
+-- that exactly the described bytes are accepted, and each place of refusal.
+pub mod Steps
+pub mod Fields
+pub mod NoNan
+pub mod Heads
+pub mod Records
+pub mod Refusals
+pub mod Outcome

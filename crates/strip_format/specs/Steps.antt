@@ -1,0 +1,34 @@
+-- What the steps of reading and writing answer, on the way to what `Calls` says. Definitions only.
+use mathlib.Core.Bool.{cond}
+use mathlib.Core.List.{List, [], _∷_}
+use Prim.Native.Nat.{ℕ, _+_}
+use lib.Dec.{eqb, leb}
+use lib.Ieee.{Float}
+use lib.ListN.{length}
+use Rattle.bits.specs.Floats.{patternOf}
+use Rattle.units.specs.Replies.{done, cut, badLength, badVersion}
+use Rattle.strip_format.specs.Fields.{size, numberAt, written}
+use Rattle.strip_format.specs.Format.{Version, headFields, headLength, recordFields, recordLength}
+
+-- what a strip's head is refused with before its numbers are read: 5 for fewer than 3 bytes, 7, 6, 5
+unfoldable pub headPlace : Version → List ℕ → ℕ
+unfolding numberAt headLength size
+headPlace v strip =
+    cond (leb 3 (length strip))
+    (cond (eqb (numberAt strip 2 1) (v .number))
+    (cond (eqb (numberAt strip 0 2) (headLength v)) (cond (leb (size (headFields v)) (length strip)) done cut) badLength)
+    badVersion)
+    cut
+
+-- what a record is refused with before its figures are read: 5 for one byte, 6, 5
+unfoldable pub recordPlace : List ℕ → ℕ → ℕ
+unfolding numberAt recordLength size
+recordPlace strip at =
+    cond (leb (at + 2) (length strip))
+    (cond (eqb (numberAt strip at 2) recordLength) (cond (leb (at + size recordFields) (length strip)) done cut) badLength)
+    cut
+
+-- the bytes of five floats
+unfoldable pub fiveBytes : Float → Float → Float → Float → Float → List ℕ
+unfolding written patternOf
+fiveBytes a b c d e = written (4 ∷ 4 ∷ 4 ∷ 4 ∷ 4 ∷ []) (patternOf a ∷ patternOf b ∷ patternOf c ∷ patternOf d ∷ patternOf e ∷ [])
