@@ -1,0 +1,5 @@
+-- What is true of the definitions beside this file.
+pub mod Spelling
+pub mod Cutting
+pub mod Putting
+pub mod Ends
