@@ -1,0 +1,117 @@
+-- Document 01's starred examples of "Worked on paper", as a table of statements on the definitions that the promises cite. Definitions only.
+use mathlib.Core.Path.{_≡_}
+use mathlib.Core.List.{List, [], _∷_, _++_}
+use Prim.Native.Nat.{ℕ}
+use lib.ListN.{length, replicate}
+use lib.Ieee.{Float, binary32, ofBits}
+use Rattle.units.specs.Replies.{done}
+use Rattle.units.specs.Settings.{usual}
+use Rattle.decibels.specs.Ratio.{answer}
+use Rattle.saturation_protector_buffer.specs.Ring.{empty, items}
+use Rattle.saturation_protector_buffer.specs.Calls.{fronted}
+use Rattle.saturation_protector_buffer.specs.History.{after-pushes}
+use Rattle.saturation_protector.specs.Calls.{made}
+use Rattle.saturation_protector.specs.History.{Figures, heard}
+use Rattle.interpolated_gain_curve.specs.Gain.{identity, knee, limiter, saturation, onPiece}
+use Rattle.interpolated_gain_curve.specs.Curve.{fresh, looked}
+use Rattle.strip_format.specs.Format.{one}
+use Rattle.strip_format.specs.Calls.{readHead}
+use Rattle.strip_run.specs.Run.{lines}
+
+-- a float by its bits
+abbrev pub float : ℕ → Float
+float n = ofBits binary32 n
+
+pub data Example : Type 0 where
+  -- a level on a new curve has this gain and region
+  gains : Float → Float → ℕ → Example
+  -- a level on a new curve has the gain of this piece, and this region
+  pieces : Float → ℕ → ℕ → Example
+  -- a gain in dB has this ratio
+  ratios : Float → Float → Example
+  -- after these pushes into a new ring the oldest is this one, or there is none
+  oldest : List Float → List Float → Example
+  -- after so many speech frames a new protector's ring has so many items
+  peaks : ℕ → ℕ → Example
+  -- these bytes are a head of this threshold, so many samples, and the Rust's default settings
+  heads : List ℕ → ℕ → ℕ → Example
+  -- this strip gives these lines
+  prints : List ℕ → List ℕ → Example
+
+-- a frame of speech at a level of -30 dBFS, with a peak of -10
+abbrev reading : Figures
+reading = record { probability = float 0x3f80_0000; peak = float 0xc120_0000; level = float 0xc1f0_0000 }
+
+-- how an example's answer is told: none has the number 0 and no value, the oldest the number 1 and its peak
+abbrev numberOf : List Float → ℕ
+numberOf [] = 0
+numberOf (x ∷ xs) = 1
+
+-- what an example says
+unfoldable pub Holds : Example → Type 0
+unfolding looked fresh onPiece answer fronted after-pushes empty made heard items readHead usual lines
+Holds (gains level gain region) =
+    (looked fresh level .reply ≡ done) × (looked fresh level .gain ≡ gain) × (looked fresh level .curve .region ≡ region)
+Holds (pieces level piece region) =
+    (looked fresh level .reply ≡ done) × (looked fresh level .gain ≡ onPiece piece level) × (looked fresh level .curve .region ≡ region)
+Holds (ratios db ratio) = answer db ≡ record { reply = done; ratio = ratio }
+Holds (oldest pushes front) =
+    fronted (after-pushes empty pushes) ≡ record { reply = done; front = record { number = numberOf front; values = front } }
+Holds (peaks frames pushed) =
+    length (items (heard (made (float 0x41a0_0000) 2 .protector) (replicate frames reading) .preliminary .ring)) ≡ pushed
+Holds (heads bytes threshold samples) =
+    readHead one bytes ≡ record { reply = done; head = record { threshold = threshold; samples = samples; settings = usual } }
+Holds (prints strip printed) = lines one strip ≡ printed
+
+-- ---- the strip
+-- "Head `00 18 01 02 01 E0 40 A0 00 00 42 48 00 00 41 70 00 00 40 C0 00 00 C2 48 00 00`"
+unfoldable pub head : List ℕ
+head =
+    0x00 ∷ 0x18 ∷ 0x01 ∷ 0x02 ∷ 0x01 ∷ 0xe0 ∷ 0x40 ∷ 0xa0 ∷ 0x00 ∷ 0x00 ∷ 0x42 ∷ 0x48 ∷ 0x00 ∷ 0x00 ∷ 0x41 ∷ 0x70 ∷ 0x00 ∷ 0x00 ∷ 0x40 ∷ 0xc0 ∷ 0x00 ∷ 0x00 ∷ 0xc2 ∷ 0x48 ∷ 0x00 ∷ 0x00 ∷ []
+
+-- "Five records, noise and envelope -90; probability, rms, peak: (0,-60,-60), (1,-10,-5), (0,-60,-60), (1,-40,0), (1,-40,0)"
+unfoldable pub records : List ℕ
+records =
+    0x00 ∷ 0x14 ∷ 0x00 ∷ 0x00 ∷ 0x00 ∷ 0x00 ∷ 0xc2 ∷ 0x70 ∷ 0x00 ∷ 0x00 ∷ 0xc2 ∷ 0x70 ∷ 0x00 ∷ 0x00 ∷ 0xc2 ∷ 0xb4 ∷ 0x00 ∷ 0x00 ∷ 0xc2 ∷ 0xb4 ∷ 0x00 ∷ 0x00
+    ∷ 0x00 ∷ 0x14 ∷ 0x3f ∷ 0x80 ∷ 0x00 ∷ 0x00 ∷ 0xc1 ∷ 0x20 ∷ 0x00 ∷ 0x00 ∷ 0xc0 ∷ 0xa0 ∷ 0x00 ∷ 0x00 ∷ 0xc2 ∷ 0xb4 ∷ 0x00 ∷ 0x00 ∷ 0xc2 ∷ 0xb4 ∷ 0x00 ∷ 0x00
+    ∷ 0x00 ∷ 0x14 ∷ 0x00 ∷ 0x00 ∷ 0x00 ∷ 0x00 ∷ 0xc2 ∷ 0x70 ∷ 0x00 ∷ 0x00 ∷ 0xc2 ∷ 0x70 ∷ 0x00 ∷ 0x00 ∷ 0xc2 ∷ 0xb4 ∷ 0x00 ∷ 0x00 ∷ 0xc2 ∷ 0xb4 ∷ 0x00 ∷ 0x00
+    ∷ 0x00 ∷ 0x14 ∷ 0x3f ∷ 0x80 ∷ 0x00 ∷ 0x00 ∷ 0xc2 ∷ 0x20 ∷ 0x00 ∷ 0x00 ∷ 0x00 ∷ 0x00 ∷ 0x00 ∷ 0x00 ∷ 0xc2 ∷ 0xb4 ∷ 0x00 ∷ 0x00 ∷ 0xc2 ∷ 0xb4 ∷ 0x00 ∷ 0x00
+    ∷ 0x00 ∷ 0x14 ∷ 0x3f ∷ 0x80 ∷ 0x00 ∷ 0x00 ∷ 0xc2 ∷ 0x20 ∷ 0x00 ∷ 0x00 ∷ 0x00 ∷ 0x00 ∷ 0x00 ∷ 0x00 ∷ 0xc2 ∷ 0xb4 ∷ 0x00 ∷ 0x00 ∷ 0xc2 ∷ 0xb4 ∷ 0x00 ∷ 0x00
+    ∷ []
+
+-- "Output whole", each line with its newline
+unfoldable pub printed : List ℕ
+printed =
+    49 ∷ 32 ∷ 78 ∷ 32 ∷ 45 ∷ 52 ∷ 48 ∷ 48 ∷ 48 ∷ 32 ∷ 50 ∷ 48 ∷ 48 ∷ 48 ∷ 32 ∷ 49 ∷ 53 ∷ 48 ∷ 48 ∷ 32 ∷ 48 ∷ 10
+    ∷ 50 ∷ 32 ∷ 87 ∷ 32 ∷ 45 ∷ 52 ∷ 48 ∷ 48 ∷ 48 ∷ 32 ∷ 50 ∷ 48 ∷ 48 ∷ 48 ∷ 32 ∷ 49 ∷ 53 ∷ 48 ∷ 48 ∷ 32 ∷ 48 ∷ 10
+    ∷ 51 ∷ 32 ∷ 78 ∷ 32 ∷ 45 ∷ 52 ∷ 48 ∷ 48 ∷ 48 ∷ 32 ∷ 50 ∷ 48 ∷ 48 ∷ 48 ∷ 32 ∷ 49 ∷ 53 ∷ 48 ∷ 48 ∷ 32 ∷ 48 ∷ 10
+    ∷ 52 ∷ 32 ∷ 87 ∷ 32 ∷ 45 ∷ 52 ∷ 48 ∷ 48 ∷ 48 ∷ 32 ∷ 50 ∷ 48 ∷ 48 ∷ 48 ∷ 32 ∷ 49 ∷ 53 ∷ 48 ∷ 48 ∷ 32 ∷ 48 ∷ 10
+    ∷ 53 ∷ 32 ∷ 80 ∷ 32 ∷ 45 ∷ 52 ∷ 48 ∷ 48 ∷ 48 ∷ 32 ∷ 50 ∷ 48 ∷ 48 ∷ 52 ∷ 32 ∷ 49 ∷ 52 ∷ 57 ∷ 53 ∷ 32 ∷ 48 ∷ 10
+    ∷ []
+
+-- ---- the table
+unfoldable pub table : List Example
+unfolding head records printed
+table =
+    -- "Curve 0: gain 1, identity. 30057.297: gain 1, knee. 33724.844: piece 20, limiter. 36575.03: piece 30. 65536: gain 0.5, saturation."
+    gains (float 0x0000_0000) (float 0x3f80_0000) identity
+    ∷ gains (float 0x46ea_d298) (float 0x3f80_0000) knee
+    ∷ pieces (float 0x4703_bcd8) 20 limiter
+    ∷ pieces (float 0x470e_df08) 30 limiter
+    ∷ gains (float 0x4780_0000) (float 0x3f00_0000) saturation
+    -- "Ratio of 0 is 1; 20, 10; 40, 100."
+    ∷ ratios (float 0x0000_0000) (float 0x3f80_0000)
+    ∷ ratios (float 0x41a0_0000) (float 0x4120_0000)
+    ∷ ratios (float 0x4220_0000) (float 0x42c8_0000)
+    -- "Push 1 to 5: oldest is 2. Empty ring: none."
+    ∷ oldest
+    (float 0x3f80_0000 ∷ float 0x4000_0000 ∷ float 0x4040_0000 ∷ float 0x4080_0000 ∷ float 0x40a0_0000 ∷ [])
+    (float 0x4000_0000 ∷ [])
+    ∷ oldest [] []
+    -- "Peaks: 40 speech frames push nothing, the 41st pushes."
+    ∷ peaks 40 0
+    ∷ peaks 41 1
+    -- "T 2, 480 samples, the Rust's default settings"; the five records, and the output
+    ∷ heads head 2 480
+    ∷ prints (head ++ records) printed
+    ∷ []
