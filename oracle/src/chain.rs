@@ -19,11 +19,11 @@ use crate::sound::{self, Frame};
 const INITIAL: f32 = 20.0;
 
 /// A frame's figures: probability, rms, peak, noise, envelope.
-type Figures = [u32; 5];
+pub type Figures = [u32; 5];
 
-const GOOD: Figures = [0x3f80_0000, 0xc220_0000, 0xc1a0_0000, 0xc2b4_0000, 0xc2b4_0000];
+pub const GOOD: Figures = [0x3f80_0000, 0xc220_0000, 0xc1a0_0000, 0xc2b4_0000, 0xc2b4_0000];
 
-fn accepted(figures: &Figures) -> bool {
+pub fn accepted(figures: &Figures) -> bool {
     let [p, rms, peak, noise, envelope] = figures.map(f32::from_bits);
     let within = |x: f32, low: f32, high: f32| low <= x && x <= high;
     within(p, 0.0, 1.0)
@@ -35,12 +35,12 @@ fn accepted(figures: &Figures) -> bool {
 }
 
 /// What is published: the bits of level and headroom, whether the level is trusted, the bits of the gain.
-type Published = [u32; 4];
+pub type Published = [u32; 4];
 
 /// The four modules of one build, as one.
 macro_rules! chain {
     ($name:ident, $build:ident) => {
-        mod $name {
+        pub mod $name {
             use super::{Figures, Published, INITIAL};
             use crate::judge::Settings;
             use crate::lines::bits;
@@ -115,6 +115,52 @@ macro_rules! chain {
 
 chain!(ruled, sonora_ruled);
 chain!(as_is, sonora_as_is);
+
+/// A reading or a cough, with the pause that closes it: how many frames of speech and of pause, and what
+/// their rms, peak, noise and envelope are drawn near to.
+pub struct Passage {
+    pub cough: bool,
+    pub length: u32,
+    pub pause: u32,
+    middles: [f32; 4],
+}
+
+impl Passage {
+    pub fn any(threshold: u32, source: &mut Random) -> Passage {
+        let cough = threshold > 1 && source.up_to(2) > 0;
+        let length = match source.up_to(3) {
+            0 if cough => threshold - 1,
+            _ if cough => 1 + source.up_to(threshold - 2),
+            0 => threshold,
+            1 => threshold + 1,
+            _ => threshold + source.up_to(60),
+        };
+        let pause = if source.up_to(3) == 0 { 1 + source.up_to(20) } else { 1 };
+        let middles = [
+            RMS.middle(source),
+            LEVEL.middle(source),
+            -100.0 * judge::fraction(source),
+            if source.up_to(2) == 0 { 20.0 * judge::fraction(source) - 2.0 } else { -90.0 },
+        ];
+        Passage {
+            cough,
+            length,
+            pause,
+            middles,
+        }
+    }
+
+    /// The figures of one of its frames.
+    pub fn figures(&self, speech: bool, source: &mut Random) -> Figures {
+        [
+            judge::probability(speech, source),
+            RMS.any(self.middles[0], source),
+            LEVEL.any(self.middles[1], source),
+            LEVEL.any(self.middles[2], source),
+            ENVELOPE.any(self.middles[3], source),
+        ]
+    }
+}
 
 /// A frame of a service, and whether it belongs to a cough.
 struct Step {
@@ -275,40 +321,20 @@ impl Desk {
     fn steps(&mut self, threshold: u32, channels: u32, samples: u32, frames: usize, source: &mut Random) -> Vec<Step> {
         let mut all = Vec::new();
         while all.len() < frames {
-            let cough = threshold > 1 && source.up_to(2) > 0;
-            let length = match source.up_to(3) {
-                0 if cough => threshold - 1,
-                _ if cough => 1 + source.up_to(threshold - 2),
-                0 => threshold,
-                1 => threshold + 1,
-                _ => threshold + source.up_to(60),
-            };
-            let pause = if source.up_to(3) == 0 { 1 + source.up_to(20) } else { 1 };
-            if cough {
+            let passage = Passage::any(threshold, source);
+            if passage.cough {
                 self.coughs += 1;
             } else {
                 self.readings += 1;
             }
-            let middles = [
-                RMS.middle(source),
-                LEVEL.middle(source),
-                -100.0 * judge::fraction(source),
-                if source.up_to(2) == 0 { 20.0 * judge::fraction(source) - 2.0 } else { -90.0 },
-            ];
-            for i in 0..length + pause {
-                let speech = i < length;
-                let figures = [
-                    judge::probability(speech, source),
-                    RMS.any(middles[0], source),
-                    LEVEL.any(middles[1], source),
-                    LEVEL.any(middles[2], source),
-                    ENVELOPE.any(middles[3], source),
-                ];
+            for i in 0..passage.length + passage.pause {
+                let speech = i < passage.length;
+                let figures = passage.figures(speech, source);
                 let frame = sound::frame(source.up_to(9) as usize, channels, samples, LARGEST, source);
                 all.push(Step {
                     figures,
                     frame,
-                    cough: cough && speech,
+                    cough: passage.cough && speech,
                 });
             }
         }

@@ -4,6 +4,10 @@
 //!   oracle list answers                   what the program must write
 //!   oracle compare [--seed N] [--only PART] --short|--long -- COMMAND..
 //!                                         asks COMMAND and the Rust, and compares bit by bit
+//!   oracle strip                          reads a strip, and prints what the program `strip` must print
+//!   oracle strips [--seed N] [--count N] -- COMMAND..
+//!                                         runs COMMAND on the fixed strips and on so many random ones
+//!                                         (2000), and compares byte for byte
 //!
 //! A part that is added has a file of its own, with its questions and the answers that are due, and
 //! its lines in `parts` and in list.rs.
@@ -24,12 +28,17 @@ mod ratio;
 mod ring;
 mod sound;
 mod speech;
+mod strip;
+mod strips;
 
 use drive::Part;
+use std::io::{stdin, stdout, BufReader, BufWriter};
 use std::process::exit;
 
 const USAGE: &str = "usage: oracle list questions|answers
-       oracle compare [--seed N] [--only PART] --short|--long -- COMMAND..";
+       oracle compare [--seed N] [--only PART] --short|--long -- COMMAND..
+       oracle strip
+       oracle strips [--seed N] [--count N] -- COMMAND..";
 
 fn usage() -> ! {
     eprintln!("{}", USAGE);
@@ -72,6 +81,26 @@ fn wish(words: &[String]) -> Wish {
         },
         _ => usage(),
     }
+}
+
+/// What `oracle strips` is asked for: the seed, how many random strips, and the command.
+fn strips_wish(words: &[String]) -> (u64, usize, Vec<String>) {
+    let (mut seed, mut count) = (1, 2000);
+    let mut rest = words.iter();
+    while let Some(word) = rest.next() {
+        let mut number = || rest.next().and_then(|n| n.parse().ok()).unwrap_or_else(|| usage());
+        match word.as_str() {
+            "--seed" => seed = number(),
+            "--count" => count = number() as usize,
+            "--" => break,
+            _ => usage(),
+        }
+    }
+    let command: Vec<String> = rest.cloned().collect();
+    if command.is_empty() {
+        usage();
+    }
+    (seed, count, command)
 }
 
 /// The parts, in document 01's order.
@@ -146,6 +175,17 @@ fn main() {
         Some("compare") => {
             let wrong = compare(&wish(&words[1..]));
             exit(if wrong == 0 { 0 } else { 1 });
+        }
+        Some("strip") if words.len() == 1 => {
+            let (mut input, mut output) = (BufReader::new(stdin()), BufWriter::new(stdout()));
+            if let Err(why) = strip::print(&mut input, &mut output) {
+                eprintln!("oracle: {}", why);
+                exit(1);
+            }
+        }
+        Some("strips") => {
+            let (seed, count, command) = strips_wish(&words[1..]);
+            exit(if strips::compare(seed, count, &command) { 0 } else { 1 });
         }
         _ => usage(),
     }

@@ -61,6 +61,23 @@ same "the comparison finds a count that is altered" 1 "$(through curve "sed '900
 same "the comparison finds a stored peak that is altered" 1 "$(through ring "sed '9000s/^\(.\{60\}\)...../\1fffff/'")"
 same "a part that there is not is refused" 2 "$(through nothing cat)"
 
+# Whole strips: the oracle's own lines go through a filter first, in place of the program's.
+strips() { # FILTER
+    target/oracle/oracle strips --count 100 -- bash -c "target/oracle/oracle strip | $1" >/dev/null 2>&1
+    echo $?
+}
+same "strips: the comparison finds nothing where nothing is altered" 0 "$(strips cat)"
+same "strips: it finds one letter that is altered in one line of one strip" 1 "$(strips "sed '19000s/[NWP]/R/'")"
+same "strips: it finds a zero with a sign" 1 "$(strips "sed 's/ 0 \([0-9]* [0-9]* [01]\)\$/ -0 \1/'")"
+same "strips: it finds a space too many" 1 "$(strips "sed 's/ P /  P /'")"
+same "strips: it finds a line feed that is missing at the end" 1 "$(strips "head -c -1")"
+same "strips: it finds lines that end otherwise" 1 "$(strips "sed 's/\$/\r/'")"
+same "strips: it finds a line that is missing at the end" 1 "$(strips "sed '\$d'")"
+same "strips: it finds a line too many" 1 "$(strips "sed '\$p'")"
+same "strips: it finds a refusal with another number" 1 "$(strips "sed 's/R 7\$/R 6/'")"
+same "strips: it finds that nothing is printed" 1 "$(strips 'cat >/dev/null')"
+same "strips: it finds that the program fails" 1 "$(strips 'cat; exit 3')"
+
 # A source that is not the one that the oracle was written for is refused, and not compiled as it is.
 room=$(mktemp -d)
 trap 'rm -rf "$room"' EXIT
@@ -75,6 +92,29 @@ same "a source without the power that is to be replaced is refused" 1 "$(prepare
 cp "$source/common.rs" "$room/source" && chmod u+w "$room/source/common.rs"
 grep -h '(1.0 - t).powf(p)' "$source/limiter.rs" >>"$room/source/limiter.rs"
 same "a source with that power twice is refused" 1 "$(prepared)"
+
+# Programs that are wrong in one thing: the oracle's reader of strips, with a slip in it.
+wrong_reader() { # NAME FILE OLD NEW
+    rm -rf "$room/reader" && cp -r oracle/src "$room/reader"
+    sed -i "s/$3/$4/" "$room/reader/$2.rs"
+    if cmp -s "oracle/src/$2.rs" "$room/reader/$2.rs"; then echo "not ok there is no '$3' in $2.rs"; fi
+    if rustc --edition 2021 -A warnings --crate-name oracle -o "$room/reader/oracle" --extern sonora_as_is=target/oracle/libsonora_as_is.rlib \
+        --extern sonora_ruled=target/oracle/libsonora_ruled.rlib "$room/reader/main.rs"; then
+        target/oracle/oracle strips --count 100 -- "$room/reader/oracle" strip >/dev/null 2>&1
+        same "strips: it finds $1" 1 $?
+    else
+        echo "not ok strips: it finds $1"
+    fi
+}
+wrong_reader "hundredths that are rounded" strip 'hundred >> -power,' '(hundred + (1 << (-power - 1))) >> -power,'
+wrong_reader "hundredths of a product that is rounded" strip '    if bits >> 31 == 1 {' \
+    'let size = (f32::from_bits(bits \& 0x7fff_ffff) * 100.0) as i128; if bits >> 31 == 1 {'
+wrong_reader "publishing one frame too early" strip 'run == head.threshold' 'speech \&\& run + 1 >= head.threshold'
+wrong_reader "the length judged before the version" strip 'if bytes\[2\] != 1 {' 'if bytes[2] != 1 \&\& two(\&bytes, 0) == 24 {'
+wrong_reader "one byte taken for the end" strip 'if bytes.is_empty() {' 'if bytes.len() < 2 {'
+wrong_reader "a threshold of 201 taken" judge '(1..=200).contains' '(1..=201).contains'
+wrong_reader "a negative zero taken in a setting" judge '&& !self.0.contains(&0x8000_0000)' ''
+wrong_reader "an rms of -150 taken" chain '-150.0 < rms' '-150.0 <= rms'
 
 # The Rust itself is compared, and not only what the oracle has by hand: a slip in each of the parts that
 # judge, in the Rust that the oracle is built over, is found.
@@ -92,4 +132,6 @@ slipped() { "$room/other/target/oracle/oracle" compare --only "$1" --short -- te
 for part in speech protector controller chain; do
     same "$part: it finds a slip in the Rust" 1 "$(slipped "$part")"
 done
+target/oracle/oracle strips --count 100 -- "$room/other/target/oracle/oracle" strip >/dev/null 2>&1
+same "strips: it finds a slip in the Rust" 1 $?
 same "ratio: where the Rust has no slip, it finds none" 0 "$(slipped ratio)"

@@ -1,0 +1,180 @@
+//! The strip: a reader that is written from document 01's text and shares nothing with the Rattle crates,
+//! and the lines that the program `strip` must print for what it reads, from the ruled Rust's chain over
+//! silent frames of one channel.
+//!
+//! It goes through a strip of any length with the memory of one record.
+
+use crate::chain::{self, ruled, Figures};
+use crate::judge::{self, Settings};
+use crate::lines::{DONE, FIGURE, SETTING, SHAPE};
+use crate::sound;
+use std::io::{self, Read, Write};
+
+/// Document 01's numbers of a strip's own refusals.
+pub const CUT: u32 = 5;
+pub const LENGTH: u32 = 6;
+pub const VERSION: u32 = 7;
+
+/// The bytes of a head and of a record, each with the two of its length.
+pub const HEAD: usize = 26;
+pub const RECORD: usize = 22;
+
+/// What a head says.
+pub struct Head {
+    pub threshold: u32,
+    pub samples: u32,
+    pub settings: Settings,
+}
+
+/// A reading, or the number of the refusal.
+type Reply<T> = Result<T, u32>;
+
+/// As many bytes as asked, and fewer only where the strip ends.
+fn take(input: &mut dyn Read, n: usize) -> io::Result<Vec<u8>> {
+    let mut bytes = Vec::with_capacity(n);
+    input.take(n as u64).read_to_end(&mut bytes)?;
+    Ok(bytes)
+}
+
+/// "Big-endian; floats as their bits": five figures, from a place on.
+fn five(bytes: &[u8], from: usize) -> Figures {
+    let mut all = [0; 5];
+    for (i, figure) in all.iter_mut().enumerate() {
+        for &byte in &bytes[from + 4 * i..from + 4 * i + 4] {
+            *figure = *figure << 8 | byte as u32;
+        }
+    }
+    all
+}
+
+fn two(bytes: &[u8], from: usize) -> u32 {
+    (bytes[from] as u32) << 8 | bytes[from + 1] as u32
+}
+
+/// "fewer than 3 bytes 5; version 7; head length 6; cut 5; then 1, 4".
+fn head(input: &mut dyn Read) -> io::Result<Reply<Head>> {
+    let mut bytes = take(input, 3)?;
+    if bytes.len() < 3 {
+        return Ok(Err(CUT));
+    }
+    if bytes[2] != 1 {
+        return Ok(Err(VERSION));
+    }
+    if two(&bytes, 0) != 24 {
+        return Ok(Err(LENGTH));
+    }
+    bytes.extend(take(input, HEAD - 3)?);
+    if bytes.len() < HEAD {
+        return Ok(Err(CUT));
+    }
+    let head = Head {
+        threshold: bytes[3] as u32,
+        samples: two(&bytes, 4),
+        settings: Settings(five(&bytes, 6)),
+    };
+    Ok(if !sound::is_samples(head.samples) {
+        Err(SHAPE)
+    } else if !(head.settings.accepted() && judge::is_threshold(head.threshold)) {
+        Err(SETTING)
+    } else {
+        Ok(head)
+    })
+}
+
+/// "no byte, end; one byte 5; length 6; cut 5; then 2". None is the end.
+fn record(input: &mut dyn Read) -> io::Result<Reply<Option<Figures>>> {
+    let mut bytes = take(input, 2)?;
+    if bytes.is_empty() {
+        return Ok(Ok(None));
+    }
+    if bytes.len() < 2 {
+        return Ok(Err(CUT));
+    }
+    if two(&bytes, 0) != 20 {
+        return Ok(Err(LENGTH));
+    }
+    bytes.extend(take(input, RECORD - 2)?);
+    if bytes.len() < RECORD {
+        return Ok(Err(CUT));
+    }
+    let figures = five(&bytes, 2);
+    Ok(if chain::accepted(&figures) { Ok(Some(figures)) } else { Err(FIGURE) })
+}
+
+/// "hundredths of the exact value, cut toward zero", "zero never signed". The value is a whole number
+/// times a power of two, and what is left of it after a shift is cut.
+pub fn hundredths(bits: u32) -> i128 {
+    let (exponent, fraction) = (bits >> 23 & 0xff, bits & 0x007f_ffff);
+    let (whole, power) = match exponent {
+        0 => (fraction, -149),
+        _ => (fraction | 0x0080_0000, exponent as i32 - 150),
+    };
+    let hundred = 100 * whole as i128;
+    let size = match power {
+        0..=60 => hundred << power,
+        -126..=-1 => hundred >> -power,
+        -149..=-127 => 0,
+        _ => panic!("{:08x} is no figure that is printed", bits),
+    };
+    if bits >> 31 == 1 {
+        -size
+    } else {
+        size
+    }
+}
+
+/// What a strip came to.
+#[derive(Default)]
+pub struct Seen {
+    pub lines: usize,
+    /// Lines of the kinds N, W and P.
+    pub kinds: [usize; 3],
+    /// The record that is refused, or 0 for the head, and the reply's number.
+    pub refused: Option<(usize, u32)>,
+}
+
+/// Reads a strip, and writes what the program must print for it.
+pub fn print(input: &mut dyn Read, output: &mut dyn Write) -> io::Result<Seen> {
+    let mut seen = Seen::default();
+    let mut number = 0;
+    let reply = match head(input)? {
+        Err(reply) => reply,
+        Ok(head) => {
+            let mut chain = ruled::Chain::new(&head.settings, head.threshold, head.samples);
+            let mut run = 0;
+            loop {
+                number += 1;
+                let figures = match record(input)? {
+                    Ok(Some(figures)) => figures,
+                    Ok(None) => break DONE,
+                    Err(reply) => break reply,
+                };
+                chain.step(&figures, &mut [vec![0.0; head.samples as usize]]);
+                let speech = judge::is_speech(f32::from_bits(figures[0]));
+                run = if speech { (run + 1).min(head.threshold) } else { 0 };
+                let kind = speech as usize + (run == head.threshold) as usize;
+                let [level, headroom, confident, gain] =
+                    chain.published().unwrap_or_else(|| panic!("the Rust's controller shows no gain"));
+                writeln!(
+                    output,
+                    "{} {} {} {} {} {}",
+                    number,
+                    ["N", "W", "P"][kind],
+                    hundredths(level),
+                    hundredths(headroom),
+                    hundredths(gain),
+                    confident
+                )?;
+                seen.lines += 1;
+                seen.kinds[kind] += 1;
+            }
+        }
+    };
+    if reply != DONE {
+        writeln!(output, "{} R {}", number, reply)?;
+        seen.lines += 1;
+        seen.refused = Some((number, reply));
+    }
+    output.flush()?;
+    Ok(seen)
+}

@@ -1,0 +1,456 @@
+//! Strips for the program `strip`, each run through it once and compared byte for byte with what strip.rs
+//! has: fixed ones, in which each thing that a strip can have wrong stands alone, and random ones, which are
+//! whole services and damaged ones.
+//!
+//! A random strip depends on the seed and on its own number alone, so a run finds the same strips whatever
+//! the number of cores.
+
+use crate::chain::{self, Figures, Passage};
+use crate::judge::{self, fraction, one_of, Settings, ENVELOPE, LEVEL, PROBABILITY, RMS};
+use crate::random::Random;
+use crate::sound;
+use crate::strip::{self, Seen, HEAD, RECORD};
+use std::io::{Read, Write};
+use std::process::{Command, Stdio};
+use std::sync::atomic::{AtomicUsize, Ordering};
+use std::sync::Mutex;
+
+/// What a strip is for, and its bytes.
+type Case = (&'static str, Vec<u8>);
+
+const RANGES: [judge::Range; 5] = [PROBABILITY, RMS, LEVEL, LEVEL, ENVELOPE];
+
+fn head(threshold: u32, samples: u32, settings: Settings) -> Vec<u8> {
+    let mut all = vec![0, 24, 1, threshold as u8, (samples >> 8) as u8, samples as u8];
+    all.extend(settings.0.iter().flat_map(|b| b.to_be_bytes()));
+    all
+}
+
+fn record(figures: &Figures) -> Vec<u8> {
+    let mut all = vec![0, 20];
+    all.extend(figures.iter().flat_map(|b| b.to_be_bytes()));
+    all
+}
+
+fn with(strip: &[u8], at: usize, byte: u8) -> Vec<u8> {
+    let mut all = strip.to_vec();
+    all[at] = byte;
+    all
+}
+
+/// The paper's worked strip.
+fn paper() -> Vec<u8> {
+    let mut all = head(2, 480, Settings::USUAL);
+    for [p, rms, peak] in [[0.0, -60.0, -60.0], [1.0, -10.0, -5.0], [0.0, -60.0, -60.0], [1.0, -40.0, 0.0], [1.0, -40.0, 0.0]] {
+        all.extend(record(&[p, rms, peak, -90.0, -90.0].map(f32::to_bits)));
+    }
+    all
+}
+
+/// A head, and two records behind it.
+fn short(head: Vec<u8>) -> Vec<u8> {
+    [head, record(&chain::GOOD), record(&chain::GOOD)].concat()
+}
+
+/// Each thing that a head can have wrong, and each end of what it may have.
+fn fixed_heads(all: &mut Vec<Case>) {
+    let good = head(2, 480, Settings::USUAL);
+    for settings in Settings::ends() {
+        all.push(("a setting at its end", short(head(2, 480, settings))));
+    }
+    for settings in Settings::wrong() {
+        all.push(("a setting that is refused", short(head(2, 480, settings))));
+        all.push(("samples and a setting that are refused", short(head(2, 20, settings))));
+    }
+    for threshold in [0, 1, 2, 3, 40, 41, 42, 127, 128, 199, 200, 201, 255] {
+        let mut strip = short(head(threshold, 480, Settings::USUAL));
+        for _ in 0..threshold {
+            strip.extend(record(&chain::GOOD));
+        }
+        all.push(("a threshold", strip));
+    }
+    for samples in (0..520).step_by(20).chain([1, 39, 41, 50, 110, 479, 481, 0x2800, 0xe001, 0x8028, 0xffff]) {
+        all.push(("a number of samples", short(head(2, samples, Settings::USUAL))));
+    }
+    for [high, low] in [[0, 0], [0, 23], [0, 25], [0, 26], [0, 20], [24, 0], [1, 24], [255, 255]] {
+        let strip = with(&with(&good, 0, high), 1, low);
+        all.push(("a head's length", short(strip.clone())));
+        all.push(("a head's length and its version", short(with(&strip, 2, 2))));
+        all.push(("a head's length where it is cut", strip[..9].to_vec()));
+    }
+    for version in [0, 2, 3, 128, 255] {
+        all.push(("a version", short(with(&good, 2, version))));
+        all.push(("a version where the head is cut", with(&good[..3], 2, version)));
+    }
+    all.push(("a refused head that is cut", head(0, 20, Settings::default())[..25].to_vec()));
+}
+
+/// Each thing that a record can have wrong, and each end of what it may have.
+fn fixed_records(all: &mut Vec<Case>) {
+    let before = short(head(2, 40, Settings::USUAL));
+    let mut ends = head(1, 40, Settings::USUAL);
+    for (i, range) in RANGES.iter().enumerate() {
+        let mut figures = chain::GOOD;
+        for &b in range.ends {
+            figures[i] = b;
+            ends.extend(record(&figures));
+        }
+        for &b in range.wrong {
+            figures[i] = b;
+            all.push(("a figure that is refused", [&before[..], &record(&figures), &record(&chain::GOOD)].concat()));
+            all.push(("a refused record that is cut", [&before[..], &record(&figures)[..21]].concat()));
+        }
+    }
+    all.push(("every figure at its ends", ends));
+    for [high, low] in [[0, 0], [0, 19], [0, 21], [0, 22], [0, 24], [20, 0], [1, 20], [255, 255]] {
+        let wrong = with(&with(&record(&chain::GOOD), 0, high), 1, low);
+        all.push(("a record's length", [&before[..], &wrong, &record(&chain::GOOD)].concat()));
+        all.push(("a record's length where it is cut", [&before[..], &wrong[..2]].concat()));
+    }
+}
+
+fn fixed() -> Vec<Case> {
+    let mut all = vec![("the paper's strip", paper())];
+    let few = &paper()[..HEAD + 2 * RECORD];
+    for n in 0..=few.len() {
+        all.push(("cut at each byte", few[..n].to_vec()));
+    }
+    for bit in 0..8 * (HEAD + RECORD) {
+        all.push(("each bit flipped", with(few, bit / 8, few[bit / 8] ^ 1 << (bit % 8))));
+    }
+    fixed_heads(&mut all);
+    fixed_records(&mut all);
+    // More than a pipe holds, in both directions.
+    let source = &mut Random::new(0);
+    all.push(("a long one", [head(12, 480, Settings::USUAL), passages(12, 20_000, false, source)].concat()));
+    all
+}
+
+/// Readings, coughs and pauses; where so asked, with peaks above the speech by about what the headroom can be,
+/// so that each of them moves it.
+fn passages(threshold: u32, records: usize, near: bool, source: &mut Random) -> Vec<u8> {
+    let mut all = Vec::new();
+    while all.len() < records * RECORD {
+        let passage = Passage::any(threshold, source);
+        for i in 0..passage.length + passage.pause {
+            let mut figures = passage.figures(i < passage.length, source);
+            if near {
+                let rms = -40.0 - 4.0 * fraction(source);
+                figures[1] = rms.to_bits();
+                figures[2] = (rms + 10.0 + 16.0 * fraction(source)).to_bits();
+            }
+            all.extend(record(&figures));
+        }
+    }
+    all.truncate(records * RECORD);
+    all
+}
+
+/// Any figures that are accepted: ends, and any bits.
+fn extremes(records: usize, source: &mut Random) -> Vec<u8> {
+    let mut all = Vec::new();
+    for _ in 0..records {
+        let mut figures = chain::GOOD;
+        for (i, range) in RANGES.iter().enumerate() {
+            figures[i] = one_of(range.ends, source);
+            while source.up_to(1) == 0 || !chain::accepted(&figures) {
+                figures[i] = source.next() as u32;
+            }
+        }
+        if source.up_to(1) == 0 {
+            figures[0] = judge::probability(true, source);
+        }
+        all.extend(record(&figures));
+    }
+    all
+}
+
+/// The f32 nearest to so many hundredths.
+fn hundredth(n: i32) -> f32 {
+    (n as f64 / 100.0) as f32
+}
+
+/// Speech at one level with hardly a change, and a frame here and there that is no speech.
+fn steady(records: usize, mut level: impl FnMut(usize, &mut Random) -> f32, source: &mut Random) -> Vec<u8> {
+    let mut all = Vec::new();
+    for i in 0..records {
+        let probability = if source.up_to(15) == 0 { 0 } else { 0x3f80_0000 };
+        let rms = level(i, source).to_bits();
+        let noise = hundredth(-(source.up_to(9000) as i32)).to_bits();
+        all.extend(record(&[probability, rms, one_of(&[0xc1a0_0000, rms], source), noise, 0xc2b4_0000]));
+    }
+    all
+}
+
+fn any_threshold(source: &mut Random) -> u32 {
+    match source.up_to(3) {
+        0 => 1 + source.up_to(199),
+        1 => one_of(&judge::THRESHOLDS, source),
+        _ => 1 + source.up_to(4),
+    }
+}
+
+/// A strip that is accepted.
+fn service(source: &mut Random) -> Case {
+    let (threshold, samples) = (any_threshold(source), sound::any_samples(source));
+    let records = match source.up_to(31) {
+        0 => 300 + source.up_to(1500),
+        1 | 2 => source.up_to(300),
+        _ => source.up_to(60),
+    } as usize;
+    let mut settings = Settings::any(source);
+    let (what, rest) = match source.up_to(7) {
+        0 => ("any figures", extremes(records, source)),
+        // The published level stays within a few floats of some hundredths, on both sides of them.
+        1 | 2 => {
+            let [headroom, gain] = [0, 1].map(|_| hundredth(source.up_to(3500) as i32));
+            settings.0[0] = headroom.to_bits();
+            settings.0[2] = gain.to_bits();
+            ("a level that stays", steady(records, |_, _| -20.0 - gain - headroom, source))
+        }
+        // It starts at -20 and comes near to 0 with the first frame that counts.
+        3 => {
+            settings.0[0] = 0;
+            settings.0[2] = 0;
+            let near = |i, source: &mut Random| (if i == 0 { 20.0 } else { 0.0 }) + 0.1 * fraction(source) - 0.05;
+            ("a level near zero", steady(records, near, source))
+        }
+        4 => ("a service with peaks near its speech", passages(threshold, records, true, source)),
+        _ => ("a service", passages(threshold, records, false, source)),
+    };
+    (what, [head(threshold, samples, settings), rest].concat())
+}
+
+/// A place of a strip, up to and with its end.
+fn place(strip: &[u8], source: &mut Random) -> usize {
+    source.up_to(strip.len() as u32) as usize
+}
+
+/// The place of a whole record of a strip, and none where it has no record.
+fn any_record(strip: &[u8], source: &mut Random) -> Option<usize> {
+    match (strip.len() - HEAD) / RECORD {
+        0 => None,
+        n => Some(HEAD + RECORD * source.up_to(n as u32 - 1) as usize),
+    }
+}
+
+/// No number or an infinity, in any of its forms.
+fn no_number(source: &mut Random) -> u32 {
+    0x7f80_0000 | source.up_to(1) << 31 | one_of(&[0, 0, 1, 0x0040_0000, 0x007f_ffff, source.next() as u32 & 0x007f_ffff], source)
+}
+
+/// A strip with something wrong in it, or that comes out so. Some stay accepted.
+fn damaged(source: &mut Random) -> Case {
+    let (_, mut strip) = service(source);
+    match source.up_to(11) {
+        0 | 1 => {
+            strip.truncate(place(&strip, source));
+            ("cut", strip)
+        }
+        2 => {
+            for _ in 0..=source.up_to(2) {
+                let at = place(&strip[1..], source);
+                strip[at] ^= 1 << source.up_to(7);
+            }
+            ("flipped bits", strip)
+        }
+        3 => {
+            let at = place(&strip, source);
+            let more: Vec<u8> = (0..=source.up_to(30)).map(|_| source.next() as u8).collect();
+            strip.splice(at..at, more);
+            ("inserted bytes", strip)
+        }
+        4 => {
+            let at = place(&strip, source);
+            let to = (at + 1 + source.up_to(30) as usize).min(strip.len());
+            strip.drain(at..to);
+            ("dropped bytes", strip)
+        }
+        5 | 6 => {
+            if let Some(at) = any_record(&strip, source) {
+                let i = source.up_to(4) as usize;
+                let bits = if source.up_to(1) == 0 { no_number(source) } else { one_of(RANGES[i].wrong, source) };
+                strip[at + 2 + 4 * i..at + 6 + 4 * i].copy_from_slice(&bits.to_be_bytes());
+            }
+            ("a figure that is refused", strip)
+        }
+        7 => {
+            if let Some(at) = any_record(&strip, source) {
+                strip[at + source.up_to(1) as usize] = source.next() as u8;
+            }
+            ("a record's length", strip)
+        }
+        8 => {
+            let at = one_of(&[0, 1, 2, 3, 4, 5], source);
+            strip[at] = source.next() as u8;
+            ("a byte of the head", strip)
+        }
+        9 => {
+            let at = 6 + 4 * source.up_to(4) as usize;
+            strip[at..at + 4].copy_from_slice(&no_number(source).to_be_bytes());
+            ("a setting that is no number", strip)
+        }
+        10 => {
+            let (_, other) = service(source);
+            ("a strip behind another", [strip, other].concat())
+        }
+        _ => ("any bytes", (0..source.up_to(100)).map(|_| source.next() as u8).collect()),
+    }
+}
+
+/// The random strip of a number.
+fn random(seed: u64, number: usize) -> Case {
+    let start = Random::new(seed ^ (number as u64) << 32).next();
+    let source = &mut Random::new(start);
+    if source.up_to(1) == 0 {
+        service(source)
+    } else {
+        damaged(source)
+    }
+}
+
+/// What a program prints for a strip. It need not take the whole of one that it refuses.
+fn run(command: &[String], strip: &[u8]) -> Result<Vec<u8>, String> {
+    let mut child = Command::new(&command[0])
+        .args(&command[1..])
+        .stdin(Stdio::piped())
+        .stdout(Stdio::piped())
+        .spawn()
+        .map_err(|e| format!("cannot run {}: {}", command[0], e))?;
+    let mut input = child.stdin.take().ok_or("no standard input")?;
+    let mut output = child.stdout.take().ok_or("no standard output")?;
+    let mut got = Vec::new();
+    let read = std::thread::scope(|scope| {
+        scope.spawn(move || input.write_all(strip));
+        output.read_to_end(&mut got)
+    });
+    read.map_err(|e| e.to_string())?;
+    let ended = child.wait().map_err(|e| e.to_string())?;
+    if ended.success() {
+        Ok(got)
+    } else {
+        Err(format!("the command ended with {}", ended))
+    }
+}
+
+/// A strip that differs: its number, what is due, and what came.
+struct Unlike {
+    number: usize,
+    case: Case,
+    due: Vec<u8>,
+    got: Result<Vec<u8>, String>,
+}
+
+/// What the comparison counts.
+#[derive(Default)]
+struct Tally {
+    strips: usize,
+    records: usize,
+    lines: usize,
+    kinds: [usize; 3],
+    /// Refusals of a head and of a record, by number.
+    refused: [[usize; 8]; 2],
+    wrong: usize,
+    first: Option<Unlike>,
+}
+
+impl Tally {
+    fn note(&mut self, number: usize, case: Case, due: Vec<u8>, seen: Seen, got: Result<Vec<u8>, String>) {
+        self.strips += 1;
+        self.lines += seen.lines;
+        for (all, one) in self.kinds.iter_mut().zip(seen.kinds) {
+            *all += one;
+            self.records += one;
+        }
+        if let Some((record, reply)) = seen.refused {
+            self.refused[(record > 0) as usize][reply as usize] += 1;
+        }
+        if got.as_ref() != Ok(&due) {
+            self.wrong += 1;
+            if self.first.as_ref().map_or(true, |first| number < first.number) {
+                self.first = Some(Unlike {
+                    number,
+                    case,
+                    due,
+                    got,
+                });
+            }
+        }
+    }
+
+    /// How many heads or records were refused, number by number.
+    fn refusals(&self, of: usize) -> String {
+        let all = [1, 2, 4, 5, 6, 7].map(|n| (n, self.refused[of][n]));
+        let some: Vec<String> = all.iter().filter(|(_, k)| *k > 0).map(|(n, k)| format!("{} with {}", k, n)).collect();
+        some.join(", ")
+    }
+}
+
+/// The first line that is not the same, counted from 1, and both.
+fn unlike(due: &[u8], got: &[u8]) -> String {
+    let text = |bytes: &[u8]| String::from_utf8_lossy(bytes).into_owned();
+    let (due, got) = (text(due), text(got));
+    let (mut ours, mut theirs) = (due.split_inclusive('\n'), got.split_inclusive('\n'));
+    for number in 1.. {
+        let (a, b) = (ours.next(), theirs.next());
+        if a != b || a.is_none() {
+            let shown = |line: Option<&str>| line.map_or("nothing".to_string(), |l| format!("{:?}", l));
+            return format!("line {}: {}, and {} is due", number, shown(b), shown(a));
+        }
+    }
+    String::new()
+}
+
+/// Tells of the first strip that differs, and keeps it beside the oracle with what is due and what came.
+fn tell(first: &Unlike) -> Result<(), String> {
+    let (what, strip) = &first.case;
+    let (why, came) = match &first.got {
+        Ok(bytes) => (unlike(&first.due, bytes), &bytes[..]),
+        Err(why) => (why.clone(), &[][..]),
+    };
+    println!("  differs: strip {} ({}), {} bytes, {}", first.number, what, strip.len(), why);
+    let program = std::env::current_exe().map_err(|e| e.to_string())?;
+    for (name, bytes) in [("differs.strip", &strip[..]), ("differs.due", &first.due[..]), ("differs.got", came)] {
+        let path = program.with_file_name(name);
+        std::fs::write(&path, bytes).map_err(|e| format!("cannot write {}: {}", path.display(), e))?;
+        println!("  kept: {}", path.display());
+    }
+    Ok(())
+}
+
+/// Runs the command on the fixed strips and on so many random ones; true where every byte is as it must be.
+pub fn compare(seed: u64, count: usize, command: &[String]) -> bool {
+    println!("strip, {} random strips, seed {}, {}:", count, seed, std::env::consts::ARCH);
+    let fixed = fixed();
+    let (next, tally) = (AtomicUsize::new(0), Mutex::new(Tally::default()));
+    let work = || loop {
+        let number = next.fetch_add(1, Ordering::Relaxed);
+        let case = match fixed.get(number) {
+            Some((what, strip)) => (*what, strip.clone()),
+            None if number < fixed.len() + count => random(seed, number - fixed.len()),
+            None => return,
+        };
+        let mut due = Vec::new();
+        let seen = strip::print(&mut &case.1[..], &mut due).expect("a buffer can be read and written");
+        let got = run(command, &case.1);
+        if let Ok(mut tally) = tally.lock() {
+            tally.note(number, case, due, seen, got);
+        }
+    };
+    std::thread::scope(|scope| {
+        for _ in 0..std::thread::available_parallelism().map_or(1, |n| n.get()) {
+            scope.spawn(work);
+        }
+    });
+    let tally = tally.into_inner().unwrap_or_default();
+    let [n, w, p] = tally.kinds;
+    println!("  {} fixed strips, {} records: {} N, {} W, {} P", fixed.len(), tally.records, n, w, p);
+    println!("  heads refused: {}; records refused: {}", tally.refusals(0), tally.refusals(1));
+    if let Some(first) = &tally.first {
+        if let Err(why) = tell(first) {
+            println!("  {}", why);
+        }
+    }
+    println!("  against the ruled Rust: {} strips and {} lines compared, {} differ", tally.strips, tally.lines, tally.wrong);
+    tally.wrong == 0 && tally.strips == fixed.len() + count
+}

@@ -1,0 +1,152 @@
+#!/usr/bin/env bash
+# The tool tools/strip-maker, as a volunteer runs it.
+cd "$(dirname "$0")/.." || exit 1
+. tests/check.bash
+room=$(mktemp -d)
+trap 'rm -rf "$room"' EXIT
+
+to_strip() { tools/strip-maker to-strip; }
+to_lines() { tools/strip-maker to-lines; }
+
+# A call that must fail: status 1, this message and nothing else, and no byte on standard output.
+refused() { # NAME MESSAGE COMMAND..
+    "${@:3}" >"$room/out" 2>"$room/err"
+    same "strip-maker: $1" "status 1, 0 bytes, $2" "status $?, $(wc -c <"$room/out") bytes, $(cat "$room/err")"
+}
+
+to_strip <examples/service.txt >"$room/strip"
+same_file "strip-maker: the example's lines make the example's strip" examples/service.strip "$room/strip"
+# A figure is shown as it was typed, without zeros at its end.
+same "strip-maker: the example's strip shows the figures that were typed" \
+    "$(sed '1,/^head/d' examples/service.txt | grep '^[0-9]' | sed -E 's/(\.[0-9]*[1-9])0+( |$)/\1\2/g; s/\.0+( |$)/\1/g')" \
+    "$(to_lines <examples/service.strip | sed 1,2d)"
+same "strip-maker: the paper's strip as lines" "$(cat <<'LINES'
+head threshold 2 samples 480 headroom 5 largest-gain 50 initial-gain 15 change-per-second 6 output-noise -50
+# probability rms peak noise envelope
+0 -60 -60 -90 -90
+1 -10 -5 -90 -90
+0 -60 -60 -90 -90
+1 -40 0 -90 -90
+1 -40 0 -90 -90
+LINES
+)" "$(to_lines <tests/strips/paper.strip)"
+
+# Each of tests/strips: to lines and back gives its bytes; one that is refused is told by its record, its
+# number, and what that number means.
+means=([1]="the samples are not 40 to 480 in a multiple of 20" [2]="a figure is not a number, or is out of range"
+    [4]="a setting is not a number, is out of range, or is a negative zero" [5]="the strip ends inside it"
+    [6]="its length is not what it must be" [7]="the version is not 1")
+for strip in tests/strips/*.strip; do
+    name=$(basename "$strip" .strip)
+    last=$(tail -n 1 "tests/strips/$name.lines")
+    case $last in
+    "0 R "*) refused "$name" "the head is refused with ${last##* }: ${means[${last##* }]}" to_lines <"$strip" ;;
+    *" R "*) refused "$name" "record ${last%% *} is refused with ${last##* }: ${means[${last##* }]}" to_lines <"$strip" ;;
+    *)
+        to_lines <"$strip" >"$room/lines"
+        to_strip <"$room/lines" >"$room/strip"
+        same_file "strip-maker: $name, to lines and back" "$strip" "$room/strip"
+        ;;
+    esac
+done
+
+# Any figures: bits by chance, and whatever of them is accepted.
+python3 - >"$room/any" <<'END_OF_PYTHON'
+import random, struct, sys
+random.seed(1)
+strip = open("tests/strips/paper.strip", "rb").read(26)
+for _ in range(1000):
+    bits = []
+    for low, high in [(0, 1), (-149.99, 49.99), (-150, 50), (-150, 50), (-150, 100)]:
+        figure = struct.pack(">I", random.choice([0x80000000, 1, random.getrandbits(32), random.getrandbits(31)]))
+        if not low <= struct.unpack(">f", figure)[0] <= high:
+            figure = struct.pack(">f", random.uniform(low, high))
+        bits.append(figure)
+    strip += b"\0\x14" + b"".join(bits)
+sys.stdout.buffer.write(strip)
+END_OF_PYTHON
+to_lines <"$room/any" | to_strip >"$room/strip"
+same_file "strip-maker: a thousand records of any bits, to lines and back" "$room/any" "$room/strip"
+same "strip-maker: no decimal that it writes has an exponent" 0 "$(to_lines <"$room/any" | sed 1,2d | grep -c '[^-0-9. ]')"
+
+# What a line may look like: each of these is the paper's second record.
+lines() { printf 'head threshold 2 samples 480\n'; printf -- "$1"; }
+head -c 26 tests/strips/paper.strip >"$room/one"
+tail -c +49 tests/strips/paper.strip | head -c 22 >>"$room/one"
+for line in '1 -10 -5 -90 -90\n' '1,-10,-5,-90,-90\n' '1\t-10\t-5\t-90\t-90\n' ' 1 , -10,  -5 ,-90\t -90 \n' \
+    '1 -10 -5 -90 -90\r\n' '1 -10 -5 -90 -90' '1 -10 -5 -90 -90 # a cough' '\n\r\n# a note\n  \n1 -10 -5 -90 -90\n\n' \
+    '+1 -10.0 -5. -9e1 -90.00000000001\n' '1 -1E+1 -.5e1 -90 -900e-1\n'; do
+    lines "$line" | to_strip >"$room/strip"
+    same_file "strip-maker: a record typed as '$line'" "$room/one" "$room/strip"
+done
+printf '\r\n# all settings\r\nhead output-noise -50, samples 480,headroom\t5 change-per-second 6 initial-gain 15 threshold 2 largest-gain 50\r\n1 -10 -5 -90 -90' |
+    to_strip >"$room/strip"
+same_file "strip-maker: the settings in another order, and lines that end as on Windows" "$room/one" "$room/strip"
+{ printf '\xef\xbb\xbf'; lines '1 -10 -5 -90 -90\n# \xe9t\xe9\n'; } | to_strip >"$room/strip"
+same_file "strip-maker: a mark before the first line, and a note in other letters" "$room/one" "$room/strip"
+head -c 26 tests/strips/paper.strip >"$room/one"
+lines '' | to_strip >"$room/strip"
+same_file "strip-maker: a head alone" "$room/one" "$room/strip"
+
+figures() { lines "$1" | to_strip | tail -c 20 | od -An -v -tx1 | tr -d ' \n'; }
+same "strip-maker: a negative zero stays one" "8000000080000000000000008000000080000000" "$(figures '-0 -0.0 0 -0e5 -1e-60\n')"
+# The middle of the two floats from 1: the even one; what lies above it by less than 64 bits can tell: the other.
+same "strip-maker: a figure is the float nearest to what is typed" "000000003f8000003f8000013f8000003f800002" \
+    "$(figures '0 1.000000059604644775390625 1.000000059604644775390625000000000000000001 1.000000059604644775390624999999999999999999 1.000000178813934326171875\n')"
+
+# What is wrong with a line.
+head_line() { refused "$1" "line 1: $2" to_strip < <(echo "$1"); }
+head_line "1 -10 -5 -90 -90" "the first line is the head, for example: head threshold 12 samples 480"
+head_line "head samples 480" "the head has no threshold"
+head_line "head threshold 2" "the head has no samples"
+head_line "head threshold 2 samples" "the samples has no number after it"
+head_line "head threshold 2 samples 480 samples 480" "the samples is there twice"
+head_line "head threshold 2 samples 480 volume 3" \
+    "'volume' is not one of threshold, samples, headroom, largest-gain, initial-gain, change-per-second, output-noise"
+for n in 0 201 -1 2.5 two 1e1 99999999999999999999; do
+    head_line "head threshold $n samples 480" "the threshold $n is not a whole number from 1 to 200"
+done
+for n in 20 39 50 500 0 480.0; do
+    head_line "head threshold 2 samples $n" "the samples $n is not from 40 to 480 in a multiple of 20"
+done
+setting() { head_line "head threshold 2 samples 480 $1 $2" "the $1 $2 is $3"; }
+setting headroom 50.1 "not from 0 to 50"
+setting headroom -0 "a negative zero, which no setting can be"
+setting largest-gain 0 "not above 0, to 50"
+setting largest-gain 1e-60 "not above 0, to 50"
+setting initial-gain -1 "not from 0 to 50"
+setting change-per-second 0.009 "not from 0.01 to 100"
+setting output-noise 1 "not from -90 to 0"
+setting output-noise -0 "a negative zero, which no setting can be"
+
+record() { refused "$1" "line 2: $2" to_strip < <(lines "$1\n"); }
+record "1.01 -10 -5 -90 -90" "the probability 1.01 is not from 0 to 1"
+record "1 50 -5 -90 -90" "the rms 50 is not above -150 and below 50"
+record "1 -150 -5 -90 -90" "the rms -150 is not above -150 and below 50"
+record "1 49.9999999 -5 -90 -90" "the rms 49.9999999 is not above -150 and below 50"
+record "1 -10 70 -90 -90" "the peak 70 is not from -150 to 50"
+record "1 -10 -5 -150.1 -90" "the noise -150.1 is not from -150 to 50"
+record "1 -10 -5 -90 100.1" "the envelope 100.1 is not from -150 to 100"
+record "1 -10 -5 -90 1e999" "the envelope 1e999 is not from -150 to 100"
+record "1 -10 -5 -90" "a record has five figures, this line has 4"
+record "1 -10 -5 -90 -90 -90" "a record has five figures, this line has 6"
+record "0,95 -10 -5 -90 -90" "a record has five figures, this line has 6"
+for word in nan inf -inf loud 1_0 0x10 -- 1e ٣; do
+    record "1 $word -5 -90 -90" "the rms '$word' is not a number"
+done
+record "1,,-5,-90,-90" "the rms '' is not a number"
+record "head threshold 2 samples 480" "there is a second head"
+refused "the seventh line" "line 7: the peak 70 is not from -150 to 50" to_strip < <(lines '\n# a note\n1 -10 -5 -90 -90\r\n\n0 0 0 0 0\n1 -10 70 -90 -90\n1 -10 80 -90 -90\n')
+refused "no line" "there is no line with a head" to_strip </dev/null
+refused "notes and empty lines alone" "there is no line with a head" to_strip < <(printf '\n# head threshold 2 samples 480\n')
+
+# How it is called.
+same "strip-maker: --help says what it is for" "Makes a strip from figures that you can type, and shows a strip as such figures." \
+    "$(tools/strip-maker --help | sed -n 1p)"
+for words in "" "to-tape" "to-strip more"; do
+    # shellcheck disable=SC2086
+    same "strip-maker: called with '$words', it says how to call it" "2 usage: strip-maker to-strip < lines > strip" \
+        "$(tools/strip-maker $words </dev/null 2>"$room/err"; echo "$? $(head -n 1 "$room/err")")"
+done
+to_strip <examples/service.txt >/dev/full 2>"$room/err"
+same "strip-maker: a full disk ends it with status 1" 1 $?

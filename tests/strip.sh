@@ -1,0 +1,138 @@
+#!/usr/bin/env bash
+# The program `strip`, run from outside.
+cd "$(dirname "$0")/.." || exit 1
+. tests/check.bash
+if [ ! -f target/bin/strip ]; then
+    echo "not ok strip: the program is built"
+    exit 1
+fi
+room=$(mktemp -d)
+trap 'rm -rf "$room"' EXIT
+
+run() { tests/run-program strip; }
+
+# The strip that document 01 works on paper, and its output, which is printed there.
+paper=tests/strips/paper.strip
+cat >"$room/paper" <<'LINES'
+1 N -4000 2000 1500 0
+2 W -4000 2000 1500 0
+3 N -4000 2000 1500 0
+4 W -4000 2000 1500 0
+5 P -4000 2004 1495 0
+LINES
+run <"$paper" >"$room/got"
+same "strip: a strip that is read to its end ends with status 0" 0 $?
+same_file "strip: the paper's strip, to the byte" "$room/paper" "$room/got"
+run <tests/strips/record-2-no-number.strip >"$room/got"
+same "strip: a strip that is refused ends with status 0 too" 0 $?
+
+mkdir "$room/made"
+tests/strips/make "$room/made"
+same "strip: the strips of tests/strips are those that cases.txt says" "" \
+    "$(for strip in "$room"/made/*.strip tests/strips/*.strip; do cmp {"$room/made",tests/strips}/"$(basename "$strip")" 2>&1; done)"
+for strip in tests/strips/*.strip; do
+    name=$(basename "$strip" .strip)
+    run <"$strip" >"$room/got" || echo "status $?" >>"$room/got"
+    same_file "strip: $name" "tests/strips/$name.lines" "$room/got"
+done
+
+run <examples/service.strip >"$room/got"
+same_file "strip: the example service" examples/service.lines "$room/got"
+same "strip: in the example the cough moves no figure" "-3825 1998 1327 1" \
+    "$(sed -n 50,74p "$room/got" | cut -d' ' -f3- | sort -u)"
+
+# Cut at each byte: a head of 26 bytes ends with 0 R 5; then, for each record of 22, the lines of those
+# before it, and at its end nothing more, and inside it 5.
+: >"$room/due" && : >"$room/got"
+for ((n = 0; n <= 136; n++)); do
+    echo "$n bytes:" | tee -a "$room/due" >>"$room/got"
+    head -c "$n" "$paper" | run >>"$room/got"
+    if [ "$n" -lt 26 ]; then
+        echo "0 R 5" >>"$room/due"
+    else
+        whole=$(((n - 26) / 22))
+        head -n "$whole" "$room/paper" >>"$room/due"
+        if [ $(((n - 26) % 22)) -ne 0 ]; then echo "$((whole + 1)) R 5" >>"$room/due"; fi
+    fi
+done
+same_file "strip: cut at each byte of its head and of its five records" "$room/due" "$room/got"
+same "strip: no byte at all is a head that is cut" "0 R 5" "$(run </dev/null)"
+
+# However the bytes come.
+for cut in 1 2 3 25 26 27 28 47 48 49; do
+    { head -c "$cut" "$paper"; sleep 0.05; tail -c "+$((cut + 1))" "$paper"; } | run | cmp -s - "$room/paper" || echo "at $cut"
+done >"$room/got"
+same "strip: a strip that comes in two pieces" "" "$(cat "$room/got")"
+for ((i = 0; i < 136; i++)); do
+    tail -c "+$((i + 1))" "$paper" | head -c 1
+    sleep 0.002
+done | run >"$room/got"
+same_file "strip: a strip that comes byte by byte" "$room/paper" "$room/got"
+
+# A million records: the first hundred of the example, again and again, over frames of 40 samples. The
+# memory that the program has used is read after 10,000 and at the end, before the strip is closed.
+example=examples/service.strip
+{ printf '\x00\x18\x01\x0c\x00\x28'; head -c 26 "$example" | tail -c 20; } >"$room/head"
+head -c 2226 "$example" | tail -c 2200 >"$room/hundred"
+yes "$room/hundred" | head -n 100 | xargs cat >"$room/block"
+used() { sed -n 's/^VmHWM:[^0-9]*\([0-9]*\) kB/\1/p' "/proc/$program/status"; }
+mkfifo "$room/in" "$room/out"
+tests/run-program strip <"$room/in" >"$room/out" &
+program=$!
+awk '$1 != NR || NF != 6 { wrong++ } { last = $0 } END { print NR, wrong + 0; print last }' "$room/out" >"$room/counted" &
+counting=$!
+exec 3>"$room/in"
+cat "$room/head" "$room/block" >&3
+before=$(used)
+for ((i = 0; i < 99; i++)); do cat "$room/block" >&3; done
+after=$(used)
+exec 3>&-
+wait "$program"
+same "strip: a million records end with status 0" 0 $?
+wait "$counting"
+same "strip: a million records: so many lines, each with its number and six fields, and the last as the Rust has it" \
+    "1000000 0 1000000 P -4152 2120 1531 1" "$(paste -sd' ' "$room/counted")"
+if [ -n "$before" ] && [ -n "$after" ] && [ "$after" -le $((before + 500)) ]; then
+    echo "ok strip: a million records take no more memory than 10000 ($before kB, $after kB)"
+else
+    echo "not ok strip: a million records take no more memory than 10000 ($before kB, $after kB)"
+fi
+
+# Where it cannot write or read: a message on standard error, by which ./level ends with status 1. (A program in
+# Rattle has no exit status of its own.)
+said() { # NAME STATUS: standard error is in $room/err
+    if [ "$2" -eq 1 ] && [ -s "$room/err" ]; then
+        echo "ok strip: $1: status 1 and a message"
+    else
+        echo "not ok strip: $1: status 1 and a message"
+        echo "  got: status $2, $(wc -c <"$room/err") bytes of message"
+    fi
+}
+level() { ./level strip -; }
+level <"$paper" >&- 2>"$room/err"
+said "no standard output" $?
+level <"$paper" >/dev/full 2>"$room/err"
+said "a full disk" $?
+cat "$room/head" "$room/block" >"$room/long"
+level <"$room/long" >/dev/full 2>"$room/err"
+said "a full disk, and more lines than a buffer holds" $?
+level <"$room/long" 2>"$room/err" | head -c 0
+said "a reader that is gone" "${PIPESTATUS[0]}"
+level <. >"$room/got" 2>"$room/err"
+said "a folder in place of a strip" $?
+same "strip: a folder in place of a strip: no line" "" "$(cat "$room/got")"
+level <&- >"$room/got" 2>"$room/err"
+said "no standard input" $?
+same "strip: no standard input: no line" "" "$(cat "$room/got")"
+# Without ./level the signal that a lost reader sends ends the program.
+tests/run-program strip <"$room/long" 2>/dev/null | head -c 0
+same "strip: a reader that is gone ends the program" 141 "${PIPESTATUS[0]}"
+
+# As a volunteer runs it.
+./level strip "$paper" >"$room/got" 2>/dev/null
+same "strip: ./level ends with status 0" 0 $?
+same_file "strip: ./level strip, the paper's strip" "$room/paper" "$room/got"
+(cd tests/strips && ../../level strip record-2-no-number.strip) >"$room/got" 2>/dev/null
+same_file "strip: ./level strip from another folder" tests/strips/record-2-no-number.lines "$room/got"
+./level strip "$room/nothing" >/dev/null 2>&1
+same "strip: ./level ends with status 2 where there is no such file" 2 $?
