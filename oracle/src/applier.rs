@@ -2,7 +2,7 @@
 //! shows. Every state that passes can be brought about in the Rust by its own calls, so that all accepted
 //! frames are the Rust's own. By hand from document 01 are the refusals.
 
-use crate::drive::{Ask, Part};
+use crate::drive::{Ask, Length, Part};
 use crate::lines::{self, bits, DONE, FIGURE, SETTING};
 use crate::random::Random;
 use crate::sound::{self, field, is_samples, Frame, Player, Tally};
@@ -72,6 +72,18 @@ impl State {
             self.samples as u32,
             bits(self.inverse),
         ]
+    }
+
+    /// The state with these figures.
+    pub fn read(figures: [u32; 5]) -> State {
+        let [clip, last, current, samples, inverse] = figures;
+        State {
+            clip: clip != 0,
+            last: f32::from_bits(last),
+            current: f32::from_bits(current),
+            samples: samples as i32,
+            inverse: f32::from_bits(inverse),
+        }
     }
 
     pub fn of(other: &Published) -> Option<State> {
@@ -360,15 +372,15 @@ pub fn list(seed: u64, to: Ask) -> Vec<String> {
 
 pub struct Appliers {
     seed: u64,
-    long: bool,
+    length: Length,
     desk: Desk,
 }
 
 impl Appliers {
-    pub fn new(seed: u64, long: bool) -> Appliers {
+    pub fn new(seed: u64, length: Length) -> Appliers {
         Appliers {
             seed,
-            long,
+            length,
             desk: Desk::new(),
         }
     }
@@ -380,9 +392,22 @@ impl Part for Appliers {
     }
 
     fn ask(&mut self, to: Ask) {
-        let samples = if self.long { 10_000_000 } else { 400_000 };
-        let _ = each_factor(&mut self.desk, &mut Random::new(self.seed), to)
-            && sound::run(&mut self.desk, self.seed, self.long, samples, to);
+        let samples = self.length.of(400_000, 10_000_000, 2_000_000);
+        let _ = (self.length == Length::Round || each_factor(&mut self.desk, &mut Random::new(self.seed), to))
+            && sound::run(&mut self.desk, self.seed, self.length, samples, to);
+    }
+
+    fn again(&mut self, name: &str, figures: &[u32], to: Ask) -> Option<bool> {
+        let desk = &mut self.desk;
+        Some(match (name, figures) {
+            ("applier.new", &[clip, factor]) => desk.fresh(clip != 0, factor, to),
+            ("applier.set", &[clip, last, current, samples, inverse]) => {
+                desk.set(State::read([clip, last, current, samples, inverse]), to)
+            }
+            ("applier.factor", &[factor]) => desk.aim(factor, to),
+            ("applier.apply", frame) => desk.play(&Frame::read(frame)?, to),
+            _ => return None,
+        })
     }
 
     fn kinds(&self) -> Vec<(&'static str, usize)> {

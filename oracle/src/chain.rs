@@ -9,7 +9,7 @@
 //! The Rust as it stands goes along, and shows how far the two power functions bring whole chains apart.
 
 use crate::applier::LARGEST;
-use crate::drive::{Ask, Part};
+use crate::drive::{Ask, Length, Part};
 use crate::judge::{self, Departure, Settings, ENVELOPE, LEVEL, RMS};
 use crate::lines::{self, DONE, FIGURE, SAMPLE, SETTING, SHAPE};
 use crate::random::Random;
@@ -385,15 +385,15 @@ pub fn list(seed: u64, to: Ask) -> Vec<String> {
 
 pub struct Chains {
     seed: u64,
-    long: bool,
+    length: Length,
     desk: Desk,
 }
 
 impl Chains {
-    pub fn new(seed: u64, long: bool) -> Chains {
+    pub fn new(seed: u64, length: Length) -> Chains {
         Chains {
             seed,
-            long,
+            length,
             desk: Desk::default(),
         }
     }
@@ -407,8 +407,8 @@ impl Part for Chains {
     fn ask(&mut self, to: Ask) {
         let source = &mut Random::new(self.seed);
         let desk = &mut self.desk;
-        let wanted = if self.long { 1_000_000 } else { 10_000 };
-        let mut going = desk.damaged(source, to);
+        let wanted = self.length.of(10_000, 1_000_000, 80_000);
+        let mut going = self.length == Length::Round || desk.damaged(source, to);
         while going && desk.frames[0] < wanted {
             let threshold = judge::one_of(&judge::THRESHOLDS, source);
             let (channels, samples) = match source.up_to(63) {
@@ -420,8 +420,24 @@ impl Part for Chains {
             let most = 400 / channels / (samples / 40) + 40;
             let steps = desk.steps(threshold, channels, samples, most as usize, source);
             let settings = Settings::any(source);
-            going = desk.service(settings, threshold, samples, &steps, source, to);
+            going = desk.service(settings, threshold, samples, &steps, source, to)
+                && (self.length != Length::Round || source.up_to(15) > 0 || desk.damaged(source, to));
         }
+    }
+
+    fn again(&mut self, name: &str, figures: &[u32], to: Ask) -> Option<bool> {
+        let desk = &mut self.desk;
+        Some(match (name, figures) {
+            ("chain.new", all) => match Settings::read(all)? {
+                (settings, &[threshold, samples]) => desk.fresh(settings, threshold, samples, to),
+                _ => return None,
+            },
+            ("chain.step", [channels, samples, p, rms, peak, noise, envelope, data @ ..]) => {
+                let frame = Frame::read(&[&[*channels, *samples], data].concat())?;
+                desk.step(&[*p, *rms, *peak, *noise, *envelope], &frame, to).is_some()
+            }
+            _ => return None,
+        })
     }
 
     fn kinds(&self) -> Vec<(&'static str, usize)> {

@@ -10,7 +10,7 @@
 //! ratio by document 01's tables are apart.
 
 use crate::applier::{self, LARGEST};
-use crate::drive::{Ask, Part};
+use crate::drive::{Ask, Length, Part};
 use crate::judge::{self, Departure, Judge, Settings, Tally, ENVELOPE, HEADROOM, LEVEL, PROBABILITY};
 use crate::lines::{self, bits, DONE, FIGURE, SAMPLE, SETTING};
 use crate::random::Random;
@@ -116,6 +116,27 @@ impl State {
         all.extend(self.settings.figures());
         all.extend([self.threshold, bits(self.change), self.waiting, bits(self.gain)]);
         all
+    }
+
+    /// The state with these figures.
+    fn read(figures: &[u32]) -> Option<State> {
+        match figures {
+            [clip, last, current, samples, inverse, rest @ ..] => {
+                let (settings, rest) = Settings::read(rest)?;
+                match *rest {
+                    [threshold, change, waiting, gain] => Some(State {
+                        applier: applier::State::read([*clip, *last, *current, *samples, *inverse]),
+                        settings,
+                        threshold,
+                        change: f32::from_bits(change),
+                        waiting,
+                        gain: f32::from_bits(gain),
+                    }),
+                    _ => None,
+                }
+            }
+            _ => None,
+        }
     }
 
     /// "an increase only after T adjacent speech frames, the first of them up to T times larger".
@@ -584,15 +605,15 @@ pub fn list(seed: u64, to: Ask) -> Vec<String> {
 
 pub struct Controllers {
     seed: u64,
-    long: bool,
+    length: Length,
     desk: Desk,
 }
 
 impl Controllers {
-    pub fn new(seed: u64, long: bool) -> Controllers {
+    pub fn new(seed: u64, length: Length) -> Controllers {
         Controllers {
             seed,
-            long,
+            length,
             desk: Desk::new(),
         }
     }
@@ -604,8 +625,24 @@ impl Part for Controllers {
     }
 
     fn ask(&mut self, to: Ask) {
-        let frames = if self.long { 400_000 } else { 20_000 };
-        judge::play(&mut self.desk, self.seed, frames, to);
+        let frames = self.length.of(20_000, 400_000, 50_000);
+        judge::play(&mut self.desk, self.seed, self.length, frames, to);
+    }
+
+    fn again(&mut self, name: &str, figures: &[u32], to: Ask) -> Option<bool> {
+        let desk = &mut self.desk;
+        Some(match (name, figures) {
+            ("controller.new", all) => match Settings::read(all)? {
+                (settings, &[threshold]) => desk.fresh(settings, threshold, to),
+                _ => return None,
+            },
+            ("controller.set", state) => desk.set(State::read(state)?, to),
+            ("controller.process", [channels, samples, a, b, c, d, e, f, data @ ..]) => {
+                let frame = Frame::read(&[&[*channels, *samples], data].concat())?;
+                desk.process(&Info([*a, *b, *c, *d, *e, *f]), &frame, to)
+            }
+            _ => return None,
+        })
     }
 
     fn kinds(&self) -> Vec<(&'static str, usize)> {

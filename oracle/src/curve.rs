@@ -4,7 +4,7 @@
 //! By hand from document 01 are the refusals, a state that the Rust's types cannot hold, and a
 //! duration at its largest value, which is held there while the Rust's rolls over.
 
-use crate::drive::{Ask, Part};
+use crate::drive::{Ask, Length, Part};
 use crate::lines::{self, bits, halves, DONE, FIGURE, SETTING};
 use crate::random::Random;
 use sonora_ruled::interpolated_gain_curve::{GainCurveRegion, InterpolatedGainCurve as Published, Stats};
@@ -80,6 +80,20 @@ impl State {
         all.push(self.region);
         all.extend(halves(self.duration as u64));
         all
+    }
+
+    /// The state with these figures.
+    pub fn read(figures: &[u32]) -> Option<State> {
+        let whole = |high: u32, low: u32| (high as u64) << 32 | low as u64;
+        match *figures {
+            [a, b, c, d, e, f, g, h, available, region, high, low] => Some(State {
+                counts: [whole(a, b), whole(c, d), whole(e, f), whole(g, h)],
+                available: available != 0,
+                region,
+                duration: whole(high, low) as i64,
+            }),
+            _ => None,
+        }
     }
 
     /// The gain of a level, by the Rust's curve, and the state after it.
@@ -345,20 +359,21 @@ pub fn list(seed: u64, to: Ask) -> Vec<String> {
     desk.unlike
 }
 
-/// The edges and all near the places, in a long run every float between the ends, then sequences.
+/// The edges and all near the places, in a long run every float between the ends, then sequences. A round has
+/// the sequences alone.
 pub struct Curves {
     seed: u64,
-    long: bool,
+    length: Length,
     desk: Desk,
     near: usize,
     between: usize,
 }
 
 impl Curves {
-    pub fn new(seed: u64, long: bool) -> Curves {
+    pub fn new(seed: u64, length: Length) -> Curves {
         Curves {
             seed,
-            long,
+            length,
             desk: Desk::new(),
             near: 0,
             between: 0,
@@ -374,13 +389,16 @@ impl Part for Curves {
     fn ask(&mut self, to: Ask) {
         let mut near = EDGES.to_vec();
         near.extend(near_places(4));
+        if self.length == Length::Round {
+            near.clear();
+        }
         for level in near {
             self.near += 1;
             if !self.desk.level(level, to) {
                 return;
             }
         }
-        if self.long {
+        if self.length == Length::Long {
             for level in PLACES[0].to_bits() - 64..=PLACES[32].to_bits() + 64 {
                 self.between += 1;
                 if !self.desk.level(level, to) {
@@ -388,8 +406,19 @@ impl Part for Curves {
                 }
             }
         }
-        let calls = if self.long { 1_000_000 } else { 20_000 };
+        let calls = self.length.of(20_000, 1_000_000, 100_000);
         sequence(&mut self.desk, &mut Random::new(self.seed), calls, to);
+    }
+
+    fn again(&mut self, name: &str, figures: &[u32], to: Ask) -> Option<bool> {
+        let desk = &mut self.desk;
+        Some(match (name, figures) {
+            ("curve.new", []) => desk.fresh(to),
+            ("curve.set", state) => desk.set(State::read(state)?, to),
+            ("curve.level", &[x]) => desk.level(x, to),
+            ("curve.stats", []) => desk.stats(to),
+            _ => return None,
+        })
     }
 
     fn kinds(&self) -> Vec<(&'static str, usize)> {

@@ -6,7 +6,7 @@
 //! brought about in the Rust by a frame that ends at it. Where none is found, and where a state fails
 //! its test, the answers are held to document 01 alone, and those frames are counted apart.
 
-use crate::drive::{Ask, Part};
+use crate::drive::{Ask, Length, Part};
 use crate::lines::{self, bits, DONE, SETTING, SHAPE};
 use crate::random::Random;
 use crate::sound::{self, field, is_samples, Frame, Player, Tally};
@@ -314,15 +314,15 @@ pub fn list(seed: u64, to: Ask) -> Vec<String> {
 
 pub struct Estimators {
     seed: u64,
-    long: bool,
+    length: Length,
     desk: Desk,
 }
 
 impl Estimators {
-    pub fn new(seed: u64, long: bool) -> Estimators {
+    pub fn new(seed: u64, length: Length) -> Estimators {
         Estimators {
             seed,
-            long,
+            length,
             desk: Desk::new(),
         }
     }
@@ -334,8 +334,20 @@ impl Part for Estimators {
     }
 
     fn ask(&mut self, to: Ask) {
-        let samples = if self.long { 10_000_000 } else { 400_000 };
-        sound::run(&mut self.desk, self.seed, self.long, samples, to);
+        let samples = self.length.of(400_000, 10_000_000, 2_000_000);
+        sound::run(&mut self.desk, self.seed, self.length, samples, to);
+    }
+
+    fn again(&mut self, name: &str, figures: &[u32], to: Ask) -> Option<bool> {
+        let desk = &mut self.desk;
+        Some(match (name, figures) {
+            ("estimator.new", &[samples]) => desk.fresh(samples, to),
+            ("estimator.set", &[level, samples, part]) => desk.set(level, [samples, part], to),
+            ("estimator.samples", &[samples]) => desk.change(samples, to),
+            ("estimator.reset", []) => desk.reset(to),
+            ("estimator.level", frame) => desk.play(&Frame::read(frame)?, to),
+            _ => return None,
+        })
     }
 
     fn kinds(&self) -> Vec<(&'static str, usize)> {

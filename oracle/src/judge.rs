@@ -2,7 +2,7 @@
 //! settings, thresholds, runs of speech frames, figures at the ends of their ranges, and the Rust's
 //! `Debug` form.
 
-use crate::drive::Ask;
+use crate::drive::{Ask, Length};
 use crate::lines::{bits, DONE, FIGURE, SAMPLE, SETTING, SHAPE};
 use crate::random::Random;
 
@@ -162,6 +162,14 @@ impl Settings {
 
     pub fn at(&self, i: usize) -> f32 {
         f32::from_bits(self.0[i])
+    }
+
+    /// The settings that figures begin with, and the figures behind them.
+    pub fn read(figures: &[u32]) -> Option<(Settings, &[u32])> {
+        match figures {
+            [a, b, c, d, e, rest @ ..] => Some((Settings([*a, *b, *c, *d, *e]), rest)),
+            _ => None,
+        }
     }
 
     /// "headroom 0 to 50; largest gain above 0, to 50; initial gain 0 to 50; change per second 0.01 to
@@ -393,13 +401,14 @@ fn failing(judge: &mut dyn Judge, source: &mut Random, to: Ask) -> bool {
     true
 }
 
-/// What a run asks, in so many frames.
-pub fn play(judge: &mut dyn Judge, seed: u64, frames: usize, to: Ask) -> bool {
+/// What a run asks, in so many frames. A round has random runs alone.
+pub fn play(judge: &mut dyn Judge, seed: u64, length: Length, frames: usize, to: Ask) -> bool {
     let source = &mut Random::new(seed);
+    let fixed = length != Length::Round;
     judge.renew(2, source, to)
-        && judge.each_figure(source, to)
-        && judge.each_setting(source, to)
-        && failing(judge, source, to)
+        && (!fixed || judge.each_figure(source, to))
+        && (!fixed || judge.each_setting(source, to))
+        && (!fixed || failing(judge, source, to))
         && THRESHOLDS.iter().all(|&t| boundaries(judge, t, source, to))
         && THRESHOLDS.iter().all(|&t| runs(judge, t, frames / THRESHOLDS.len(), source, to))
 }

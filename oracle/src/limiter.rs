@@ -10,7 +10,7 @@
 //! eighth power by three squarings are apart.
 
 use crate::curve;
-use crate::drive::{Ask, Part};
+use crate::drive::{Ask, Length, Part};
 use crate::estimator::{self, LARGEST};
 use crate::lines::{self, bits, DONE, SETTING, SHAPE};
 use crate::random::Random;
@@ -56,6 +56,22 @@ impl State {
         all.extend(self.estimator.figures());
         all.extend(self.curve.figures());
         all
+    }
+
+    /// The state with these figures.
+    fn read(figures: &[u32]) -> Option<State> {
+        match figures {
+            [carried, level, samples, part, curve @ ..] => Some(State {
+                carried: f32::from_bits(*carried),
+                estimator: estimator::State {
+                    level: f32::from_bits(*level),
+                    samples: *samples,
+                    part: *part,
+                },
+                curve: curve::State::read(curve)?,
+            }),
+            _ => None,
+        }
     }
 
     /// "Sample j of a sub-frame of s samples has start + ((end-start)/s)*j. If the carried factor is
@@ -378,15 +394,15 @@ pub fn list(seed: u64, to: Ask) -> Vec<String> {
 
 pub struct Limiters {
     seed: u64,
-    long: bool,
+    length: Length,
     desk: Desk,
 }
 
 impl Limiters {
-    pub fn new(seed: u64, long: bool) -> Limiters {
+    pub fn new(seed: u64, length: Length) -> Limiters {
         Limiters {
             seed,
-            long,
+            length,
             desk: Desk::new(),
         }
     }
@@ -398,8 +414,20 @@ impl Part for Limiters {
     }
 
     fn ask(&mut self, to: Ask) {
-        let samples = if self.long { 12_000_000 } else { 500_000 };
-        sound::run(&mut self.desk, self.seed, self.long, samples, to);
+        let samples = self.length.of(500_000, 12_000_000, 2_000_000);
+        sound::run(&mut self.desk, self.seed, self.length, samples, to);
+    }
+
+    fn again(&mut self, name: &str, figures: &[u32], to: Ask) -> Option<bool> {
+        let desk = &mut self.desk;
+        Some(match (name, figures) {
+            ("limiter.new", &[samples]) => desk.fresh(samples, to),
+            ("limiter.set", state) => desk.set(State::read(state)?, to),
+            ("limiter.samples", &[samples]) => desk.change(samples, to),
+            ("limiter.reset", []) => desk.reset(to),
+            ("limiter.process", frame) => desk.play(&Frame::read(frame)?, to),
+            _ => return None,
+        })
     }
 
     fn kinds(&self) -> Vec<(&'static str, usize)> {

@@ -34,6 +34,22 @@ pub fn question(name: &str, figures: &[u32]) -> String {
     line
 }
 
+/// A line's name and figures. None where it is no name with figures behind it.
+pub fn read(line: &str) -> Option<(&str, Vec<u32>)> {
+    let mut words = line.split(' ');
+    let name = words.next()?;
+    let figure = |word: &str| {
+        let digits = word.len() == 8 && word.bytes().all(|c| matches!(c, b'0'..=b'9' | b'a'..=b'f'));
+        if digits {
+            u32::from_str_radix(word, 16).ok()
+        } else {
+            None
+        }
+    };
+    let figures: Option<Vec<u32>> = words.map(figure).collect();
+    Some((name, figures?))
+}
+
 /// The bits of a float. The program has one NaN.
 pub fn bits(x: f32) -> u32 {
     if x.is_nan() {

@@ -2,8 +2,17 @@
 //!
 //!   oracle list questions                 the fixed list, as the program `replay` reads it
 //!   oracle list answers                   what the program must write
+//!   oracle replay                         reads questions, and prints what the program `replay` must answer
 //!   oracle compare [--seed N] [--only PART] --short|--long -- COMMAND..
 //!                                         asks COMMAND and the Rust, and compares bit by bit
+//!   oracle scale [--seed N] [--minutes M | --rounds R] [--only PART] -- COMMAND..
+//!                                         the same at scale, in rounds of random questions with the seeds N,
+//!                                         N+1 and so on, and counts them: R rounds (1), or whole rounds until
+//!                                         M minutes are over, or until an answer differs. Then the questions
+//!                                         up to it are shrunk and kept beside the oracle: smallest.questions,
+//!                                         which COMMAND reads, with what is due and what came. Smallest is
+//!                                         that no single question of them can be left out, and not that no
+//!                                         other questions are fewer; a question itself is not made smaller
 //!   oracle strip                          reads a strip, and prints what the program `strip` must print
 //!   oracle strips [--seed N] [--count N] -- COMMAND..
 //!                                         runs COMMAND on the fixed strips and on so many random ones
@@ -12,6 +21,7 @@
 //! A part that is added has a file of its own, with its questions and the answers that are due, and
 //! its lines in `parts` and in list.rs.
 
+mod again;
 mod applier;
 mod chain;
 mod controller;
@@ -26,17 +36,21 @@ mod protector;
 mod random;
 mod ratio;
 mod ring;
+mod scale;
+mod shrink;
 mod sound;
 mod speech;
 mod strip;
 mod strips;
 
-use drive::Part;
+use drive::{Length, Part};
 use std::io::{stdin, stdout, BufReader, BufWriter};
 use std::process::exit;
 
 const USAGE: &str = "usage: oracle list questions|answers
+       oracle replay
        oracle compare [--seed N] [--only PART] --short|--long -- COMMAND..
+       oracle scale [--seed N] [--minutes M | --rounds R] [--only PART] -- COMMAND..
        oracle strip
        oracle strips [--seed N] [--count N] -- COMMAND..";
 
@@ -48,12 +62,12 @@ fn usage() -> ! {
 struct Wish {
     seed: u64,
     only: Option<String>,
-    long: bool,
+    length: Length,
     command: Vec<String>,
 }
 
 fn wish(words: &[String]) -> Wish {
-    let (mut seed, mut only, mut long) = (1, None, None);
+    let (mut seed, mut only, mut length) = (1, None, None);
     let mut rest = words.iter();
     while let Some(word) = rest.next() {
         match word.as_str() {
@@ -65,21 +79,48 @@ fn wish(words: &[String]) -> Wish {
                 Some(name) => only = Some(name.clone()),
                 None => usage(),
             },
-            "--short" => long = Some(false),
-            "--long" => long = Some(true),
+            "--short" => length = Some(Length::Short),
+            "--long" => length = Some(Length::Long),
             "--" => break,
             _ => usage(),
         }
     }
     let command: Vec<String> = rest.cloned().collect();
-    match long {
-        Some(long) if !command.is_empty() => Wish {
+    match length {
+        Some(length) if !command.is_empty() => Wish {
             seed,
             only,
-            long,
+            length,
             command,
         },
         _ => usage(),
+    }
+}
+
+/// What `oracle scale` is asked for.
+fn scale_wish(words: &[String]) -> scale::Wish {
+    let (mut seed, mut only, mut until) = (1, None, None);
+    let mut rest = words.iter();
+    while let Some(word) = rest.next() {
+        let mut number = || rest.next().and_then(|n| n.parse().ok()).unwrap_or_else(|| usage());
+        match word.as_str() {
+            "--seed" => seed = number(),
+            "--minutes" if until.is_none() => until = Some(scale::Until::Minutes(number())),
+            "--rounds" if until.is_none() => until = Some(scale::Until::Rounds(number())),
+            "--only" => only = Some(rest.next().unwrap_or_else(|| usage()).clone()),
+            "--" => break,
+            _ => usage(),
+        }
+    }
+    let command: Vec<String> = rest.cloned().collect();
+    if command.is_empty() {
+        usage();
+    }
+    scale::Wish {
+        seed,
+        only,
+        until: until.unwrap_or(scale::Until::Rounds(1)),
+        command,
     }
 }
 
@@ -104,24 +145,24 @@ fn strips_wish(words: &[String]) -> (u64, usize, Vec<String>) {
 }
 
 /// The parts, in document 01's order.
-fn parts(seed: u64, long: bool) -> Vec<Box<dyn Part>> {
+fn parts(seed: u64, length: Length) -> Vec<Box<dyn Part>> {
     vec![
-        Box::new(ratio::Ratios::new(seed, long)),
-        Box::new(ring::Rings::new(seed, long)),
-        Box::new(curve::Curves::new(seed, long)),
-        Box::new(estimator::Estimators::new(seed, long)),
-        Box::new(applier::Appliers::new(seed, long)),
-        Box::new(limiter::Limiters::new(seed, long)),
-        Box::new(speech::Speeches::new(seed, long)),
-        Box::new(protector::Protectors::new(seed, long)),
-        Box::new(controller::Controllers::new(seed, long)),
-        Box::new(chain::Chains::new(seed, long)),
+        Box::new(ratio::Ratios::new(seed, length)),
+        Box::new(ring::Rings::new(seed, length)),
+        Box::new(curve::Curves::new(seed, length)),
+        Box::new(estimator::Estimators::new(seed, length)),
+        Box::new(applier::Appliers::new(seed, length)),
+        Box::new(limiter::Limiters::new(seed, length)),
+        Box::new(speech::Speeches::new(seed, length)),
+        Box::new(protector::Protectors::new(seed, length)),
+        Box::new(controller::Controllers::new(seed, length)),
+        Box::new(chain::Chains::new(seed, length)),
     ]
 }
 
 /// Compares one part, and returns how many answers differ.
 fn compare_part(wish: &Wish, part: &mut dyn Part) -> usize {
-    let length = if wish.long { "long" } else { "short" };
+    let length = wish.length.of("short", "long", "round");
     println!("{}, {} run, seed {}, {}:", part.name(), length, wish.seed, std::env::consts::ARCH);
     let found = match drive::differences(&wish.command, part) {
         Ok(found) => found,
@@ -143,15 +184,21 @@ fn compare_part(wish: &Wish, part: &mut dyn Part) -> usize {
     found.wrong + part.unlike().len() + (found.compared == 0) as usize
 }
 
-fn compare(wish: &Wish) -> usize {
-    let mut all = parts(wish.seed, wish.long);
-    if let Some(name) = &wish.only {
+/// The parts, or the one that is asked for.
+fn wanted(seed: u64, length: Length, only: &Option<String>) -> Vec<Box<dyn Part>> {
+    let mut all = parts(seed, length);
+    if let Some(name) = only {
         all.retain(|part| part.name() == name);
         if all.is_empty() {
             eprintln!("oracle: no part {}", name);
             exit(2);
         }
     }
+    all
+}
+
+fn compare(wish: &Wish) -> usize {
+    let mut all = wanted(wish.seed, wish.length, &wish.only);
     all.iter_mut().map(|part| compare_part(wish, part.as_mut())).sum()
 }
 
@@ -175,6 +222,24 @@ fn main() {
         Some("compare") => {
             let wrong = compare(&wish(&words[1..]));
             exit(if wrong == 0 { 0 } else { 1 });
+        }
+        Some("scale") => {
+            let good = scale::compare(&scale_wish(&words[1..]));
+            exit(if good { 0 } else { 1 });
+        }
+        Some("replay") if words.len() == 1 => {
+            let (mut input, mut output) = (BufReader::new(stdin()), BufWriter::new(stdout()));
+            match again::replay(&mut input, &mut output) {
+                Ok(unlike) if unlike.is_empty() => {}
+                Ok(unlike) => {
+                    eprintln!("oracle: the Rust and the paper by hand do not agree: {}", unlike[0]);
+                    exit(1);
+                }
+                Err(why) => {
+                    eprintln!("oracle: {}", why);
+                    exit(1);
+                }
+            }
         }
         Some("strip") if words.len() == 1 => {
             let (mut input, mut output) = (BufReader::new(stdin()), BufWriter::new(stdout()));

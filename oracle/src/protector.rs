@@ -10,7 +10,7 @@
 //! The largest peak can meet two zeros of unlike sign. Here the first is kept, as the Rust does on x86-64;
 //! on Arm the Rust has +0 there, and exactly that is let through.
 
-use crate::drive::{Ask, Part};
+use crate::drive::{Ask, Length, Part};
 use crate::judge::{self, Departure, Judge, Tally, HEADROOM, LEVEL, PROBABILITY};
 use crate::lines::{self, bits, DONE, FIGURE, SETTING};
 use crate::random::Random;
@@ -66,6 +66,24 @@ impl Peaks {
         all.extend(self.stored.map(bits));
         all.extend([bits(self.largest), self.elapsed]);
         all
+    }
+
+    /// The state that figures begin with, and the figures behind it.
+    fn read(figures: &[u32]) -> Option<(Peaks, &[u32])> {
+        match figures {
+            [headroom, place, size, a, b, c, d, largest, elapsed, rest @ ..] => {
+                let peaks = Peaks {
+                    headroom: f32::from_bits(*headroom),
+                    place: *place,
+                    size: *size,
+                    stored: [*a, *b, *c, *d].map(f32::from_bits),
+                    largest: f32::from_bits(*largest),
+                    elapsed: *elapsed,
+                };
+                Some((peaks, rest))
+            }
+            _ => None,
+        }
     }
 
     /// "The largest peak is pushed when elapsed time exceeds 400 ms; with an empty ring it stands for the
@@ -138,6 +156,23 @@ impl State {
         all.extend(self.preliminary.figures());
         all.extend(self.reliable.figures());
         all
+    }
+
+    /// The state with these figures.
+    fn read(figures: &[u32]) -> Option<State> {
+        let (first, rest) = figures.split_at(figures.len().min(4));
+        let (preliminary, rest) = Peaks::read(rest)?;
+        match (first, Peaks::read(rest)?) {
+            (&[initial, threshold, count, headroom], (reliable, [])) => Some(State {
+                initial: f32::from_bits(initial),
+                threshold,
+                count,
+                headroom: f32::from_bits(headroom),
+                preliminary,
+                reliable,
+            }),
+            _ => None,
+        }
     }
 
     /// Answers whether a peak was pushed.
@@ -521,15 +556,15 @@ pub fn list(seed: u64, to: Ask) -> Vec<String> {
 
 pub struct Protectors {
     seed: u64,
-    long: bool,
+    length: Length,
     desk: Desk,
 }
 
 impl Protectors {
-    pub fn new(seed: u64, long: bool) -> Protectors {
+    pub fn new(seed: u64, length: Length) -> Protectors {
         Protectors {
             seed,
-            long,
+            length,
             desk: Desk::new(),
         }
     }
@@ -541,8 +576,20 @@ impl Part for Protectors {
     }
 
     fn ask(&mut self, to: Ask) {
-        let frames = if self.long { 1_000_000 } else { 60_000 };
-        let _ = zeros(&mut self.desk, to) && judge::play(&mut self.desk, self.seed, frames, to);
+        let frames = self.length.of(60_000, 1_000_000, 200_000);
+        let _ = (self.length == Length::Round || zeros(&mut self.desk, to))
+            && judge::play(&mut self.desk, self.seed, self.length, frames, to);
+    }
+
+    fn again(&mut self, name: &str, figures: &[u32], to: Ask) -> Option<bool> {
+        let desk = &mut self.desk;
+        Some(match (name, figures) {
+            ("protector.new", &[initial, threshold]) => desk.fresh(initial, threshold, to),
+            ("protector.set", state) => desk.set(State::read(state)?, to),
+            ("protector.analyze", &[p, peak, level]) => desk.analyze(p, peak, level, to),
+            ("protector.reset", []) => desk.reset(to),
+            _ => return None,
+        })
     }
 
     fn kinds(&self) -> Vec<(&'static str, usize)> {

@@ -1,6 +1,6 @@
 //! Decibels to a ratio: the questions `ratio X`, and what the two builds of the Rust answer.
 
-use crate::drive::{Ask, Part};
+use crate::drive::{Ask, Length, Part};
 use crate::lines::{self, DONE, FIGURE};
 use crate::random::Random;
 use sonora_as_is::common::db_to_ratio as as_it_stands;
@@ -110,10 +110,10 @@ impl Departure {
 }
 
 /// Every multiple of 2^-fine from 0 to 51, all within 8 floats of each boundary, and random ones:
-/// uniform over the bit patterns from 0 to 51, and over all bit patterns.
+/// uniform over the bit patterns from 0 to 51, and over all bit patterns. A round has the random ones alone.
 pub struct Ratios {
     seed: u64,
-    fine: u32,
+    fine: Option<u32>,
     random: usize,
     anywhere: usize,
     asked: [usize; 4],
@@ -121,8 +121,9 @@ pub struct Ratios {
 }
 
 impl Ratios {
-    pub fn new(seed: u64, long: bool) -> Ratios {
-        let (fine, random, anywhere) = if long { (12, 1_000_000, 200_000) } else { (6, 20_000, 5_000) };
+    pub fn new(seed: u64, length: Length) -> Ratios {
+        let (fine, random, anywhere) =
+            length.of((Some(6), 20_000, 5_000), (Some(12), 1_000_000, 200_000), (None, 100_000, 20_000));
         Ratios {
             seed,
             fine,
@@ -147,12 +148,23 @@ impl Part for Ratios {
     }
 
     fn ask(&mut self, to: Ask) {
-        let fine = self.fine;
         let mut source = Random::new(self.seed);
-        let _ = (0..=51u32 << fine).all(|i| self.put(0, (i as f32 / (1u32 << fine) as f32).to_bits(), to))
-            && near_boundaries(8).into_iter().all(|bits| self.put(1, bits, to))
-            && (0..self.random).all(|_| self.put(2, source.up_to(LARGEST_GAIN.to_bits()), to))
+        if let Some(fine) = self.fine {
+            let going = (0..=51u32 << fine).all(|i| self.put(0, (i as f32 / (1u32 << fine) as f32).to_bits(), to))
+                && near_boundaries(8).into_iter().all(|bits| self.put(1, bits, to));
+            if !going {
+                return;
+            }
+        }
+        let _ = (0..self.random).all(|_| self.put(2, source.up_to(LARGEST_GAIN.to_bits()), to))
             && (0..self.anywhere).all(|_| self.put(3, source.up_to(u32::MAX), to));
+    }
+
+    fn again(&mut self, name: &str, figures: &[u32], to: Ask) -> Option<bool> {
+        match (name, figures) {
+            ("ratio", &[x]) => Some(to(question(x), answer(x))),
+            _ => None,
+        }
     }
 
     fn kinds(&self) -> Vec<(&'static str, usize)> {

@@ -7,7 +7,7 @@
 //! ring that the Rust cannot be brought to by its own calls is held to document 01 alone; those are
 //! counted apart.
 
-use crate::drive::{Ask, Part};
+use crate::drive::{Ask, Length, Part};
 use crate::lines::{self, bits, DONE, FIGURE, SETTING};
 use crate::random::Random;
 use sonora_ruled::saturation_protector_buffer::SaturationProtectorBuffer as Published;
@@ -120,9 +120,12 @@ impl Desk {
 
     /// Holds this ring to the Rust's.
     fn hold(&mut self, question: &str) {
-        let Some(other) = &self.published else {
-            self.by_hand += 1;
-            return;
+        let other = match &self.published {
+            Some(other) => other,
+            None => {
+                self.by_hand += 1;
+                return;
+            }
         };
         self.with_the_rust += 1;
         let front = self.ring.items().first().map(|x| x.to_bits());
@@ -364,10 +367,10 @@ pub struct Rings {
 }
 
 impl Rings {
-    pub fn new(seed: u64, long: bool) -> Rings {
+    pub fn new(seed: u64, length: Length) -> Rings {
         Rings {
             seed,
-            calls: if long { 1_000_000 } else { 20_000 },
+            calls: length.of(20_000, 1_000_000, 100_000),
             desk: Desk::new(),
         }
     }
@@ -380,6 +383,18 @@ impl Part for Rings {
 
     fn ask(&mut self, to: Ask) {
         sequence(&mut self.desk, &mut Random::new(self.seed), self.calls, to);
+    }
+
+    fn again(&mut self, name: &str, figures: &[u32], to: Ask) -> Option<bool> {
+        let desk = &mut self.desk;
+        Some(match (name, figures) {
+            ("ring.new", []) => desk.fresh(to),
+            ("ring.set", &[place, size, a, b, c, d]) => desk.set(place, size, [a, b, c, d], to),
+            ("ring.push", &[x]) => desk.push(x, to),
+            ("ring.reset", []) => desk.reset(to),
+            ("ring.keep", []) => desk.keep(to),
+            _ => return None,
+        })
     }
 
     fn kinds(&self) -> Vec<(&'static str, usize)> {

@@ -1,7 +1,7 @@
 //! Frames of sound, and how a part that takes frames is asked about whole sequences of them: what the
 //! level estimator, the applier and the limiter have in common.
 
-use crate::drive::Ask;
+use crate::drive::{Ask, Length};
 use crate::lines::{bits, DONE, SAMPLE, SETTING, SHAPE};
 use crate::random::Random;
 
@@ -19,7 +19,22 @@ pub fn is_samples(samples: u32) -> bool {
     (40..=480).contains(&samples) && samples % 20 == 0
 }
 
+/// The most samples that a question has, whatever its shape says.
+const MOST: usize = 3840;
+
 impl Frame {
+    /// The frame with these figures.
+    pub fn read(figures: &[u32]) -> Option<Frame> {
+        match figures {
+            [channels, samples, data @ ..] if data.len() <= MOST => Some(Frame {
+                channels: *channels,
+                samples: *samples,
+                data: data.to_vec(),
+            }),
+            _ => None,
+        }
+    }
+
     /// The first reply that applies, in the order 1, 4, 3: `set` says that the samples are those that
     /// the state was set to, and `passes` that the state passes its test.
     pub fn reply(&self, set: bool, passes: bool, bound: f32) -> u32 {
@@ -298,7 +313,7 @@ pub fn damaged(good: &Frame, bound: f32) -> Vec<Frame> {
     }
     for more in [1, good.samples as usize] {
         let mut one = good.clone();
-        if length + more <= 3840 {
+        if length + more <= MOST {
             one.data.resize(length + more, 0);
             all.push(one);
         }
@@ -381,14 +396,14 @@ pub fn sequence(player: &mut dyn Player, source: &mut Random, samples: usize, to
 }
 
 /// What a run asks: one loud sample at each place, all damaged calls, all states that fail, and a
-/// sequence.
-pub fn run(player: &mut dyn Player, seed: u64, long: bool, samples: usize, to: Ask) -> bool {
+/// sequence. A round has the sequence alone.
+pub fn run(player: &mut dyn Player, seed: u64, length: Length, samples: usize, to: Ask) -> bool {
     let source = &mut Random::new(seed);
     let every: Vec<u32> = (0..20).collect();
-    let shapes: &[(u32, &[u32])] = if long {
-        &[(40, &every), (60, &every), (160, &every), (480, &every)]
-    } else {
-        &[(40, &every), (480, &[0, 19])]
+    let shapes: &[(u32, &[u32])] = match length {
+        Length::Round => return sequence(player, source, samples, to),
+        Length::Long => &[(40, &every), (60, &every), (160, &every), (480, &every)],
+        Length::Short => &[(40, &every), (480, &[0, 19])],
     };
     shapes.iter().all(|&(n, parts)| each_place(player, n, parts, source, to))
         && [1, 2, 8].iter().all(|&channels| play_damaged(player, channels, 1, source, to))

@@ -7,7 +7,7 @@
 //! which goes on in the Rust too; any other is held to document 01 alone, and those frames are counted
 //! apart.
 
-use crate::drive::{Ask, Part};
+use crate::drive::{Ask, Length, Part};
 use crate::judge::{self, Departure, Judge, Settings, Tally, PROBABILITY, RMS};
 use crate::lines::{self, bits, DONE, FIGURE, SETTING};
 use crate::random::Random;
@@ -93,6 +93,29 @@ impl State {
         all.extend(self.reliable.figures());
         all.extend([bits(self.level), self.confident as u32, self.count]);
         all
+    }
+
+    /// The state with these figures.
+    fn read(figures: &[u32]) -> Option<State> {
+        let (settings, rest) = Settings::read(figures)?;
+        let average = |left: u32, sum: u32, weight: u32| Average {
+            left,
+            sum: f32::from_bits(sum),
+            weight: f32::from_bits(weight),
+        };
+        match *rest {
+            [threshold, initial, a, b, c, d, e, f, level, confident, count] => Some(State {
+                settings,
+                threshold,
+                initial: f32::from_bits(initial),
+                preliminary: average(a, b, c),
+                reliable: average(d, e, f),
+                level: f32::from_bits(level),
+                confident: confident != 0,
+                count,
+            }),
+            _ => None,
+        }
     }
 
     fn update(&mut self, rms: f32, p: f32) {
@@ -469,15 +492,15 @@ pub fn list(seed: u64, to: Ask) -> Vec<String> {
 
 pub struct Speeches {
     seed: u64,
-    long: bool,
+    length: Length,
     desk: Desk,
 }
 
 impl Speeches {
-    pub fn new(seed: u64, long: bool) -> Speeches {
+    pub fn new(seed: u64, length: Length) -> Speeches {
         Speeches {
             seed,
-            long,
+            length,
             desk: Desk::new(),
         }
     }
@@ -489,8 +512,22 @@ impl Part for Speeches {
     }
 
     fn ask(&mut self, to: Ask) {
-        let frames = if self.long { 1_000_000 } else { 60_000 };
-        judge::play(&mut self.desk, self.seed, frames, to);
+        let frames = self.length.of(60_000, 1_000_000, 200_000);
+        judge::play(&mut self.desk, self.seed, self.length, frames, to);
+    }
+
+    fn again(&mut self, name: &str, figures: &[u32], to: Ask) -> Option<bool> {
+        let desk = &mut self.desk;
+        Some(match (name, figures) {
+            ("speech.new", all) => match Settings::read(all)? {
+                (settings, &[threshold]) => desk.fresh(settings, threshold, to),
+                _ => return None,
+            },
+            ("speech.set", state) => desk.set(State::read(state)?, to),
+            ("speech.update", &[rms, p]) => desk.update(rms, p, to),
+            ("speech.reset", []) => desk.reset(to),
+            _ => return None,
+        })
     }
 
     fn kinds(&self) -> Vec<(&'static str, usize)> {
