@@ -116,8 +116,16 @@ fn tell(question: &str, due: &str, got: &str) {
     }
 }
 
-/// Asks one part for one round; false where something differs.
-fn compare_part(command: &[String], part: &mut dyn Part, count: &mut Count) -> Result<bool, String> {
+/// What a part's round came to.
+enum Found {
+    Nothing,
+    /// The Rust and what is by hand do not agree, and the command answers as it must.
+    Unlike,
+    Wrong,
+}
+
+/// Asks one part for one round, up to the first answer that differs.
+fn compare_part(command: &[String], part: &mut dyn Part, count: &mut Count) -> Result<Found, String> {
     let mut now = Count::default();
     let others = drive::run(command, |to| part.ask(to), &mut |question, due, got| {
         now.note(question, due);
@@ -127,23 +135,25 @@ fn compare_part(command: &[String], part: &mut dyn Part, count: &mut Count) -> R
         }
         got == due
     })?;
-    let mut good = now.wrong == 0 && others.is_empty();
+    now.wrong += others.len();
     for why in &others {
         println!("  {}", why);
     }
+    let mut found = if now.wrong > 0 { Found::Wrong } else { Found::Nothing };
+    if !part.unlike().is_empty() {
+        now.wrong += 1;
+        found = if now.wrong > 1 { Found::Wrong } else { Found::Unlike };
+    }
     for why in part.unlike().iter().take(5) {
         println!("  the Rust and the paper by hand do not agree: {}", why);
-        good = false;
     }
     if now.answers == 0 {
         println!("  nothing was asked");
-        good = false;
-    }
-    if !good {
-        now.wrong = now.wrong.max(1);
+        now.wrong += 1;
+        found = Found::Wrong;
     }
     count.add(&now);
-    Ok(good)
+    Ok(found)
 }
 
 /// Writes lines beside the oracle.
@@ -187,7 +197,9 @@ fn keep(command: &[String], part: &mut dyn Part, asked: usize) -> Result<(), Str
     }
     write("smallest.questions", &found.kept)?;
     write("smallest.due", &came.due)?;
-    write("smallest.got", &came.got)
+    write("smallest.got", &came.got)?;
+    println!("  again: {} <smallest.questions", command.join(" "));
+    Ok(())
 }
 
 /// Compares; true where nothing differs.
@@ -206,23 +218,29 @@ pub fn compare(wish: &Wish) -> bool {
     while good
         && match wish.until {
             Until::Rounds(n) => rounds < n,
-            Until::Minutes(n) => rounds == 0 || start.elapsed().as_secs() < 60 * n,
+            Until::Minutes(n) => rounds == 0 || start.elapsed().as_secs() / 60 < n,
         }
     {
         let seed = wish.seed.wrapping_add(rounds);
         rounds += 1;
         for (which, (name, count)) in counts.iter_mut().enumerate() {
             let before = count.answers;
-            let compared = compare_part(&wish.command, parts(seed)[which].as_mut(), count);
-            if !matches!(compared, Ok(true)) {
-                good = false;
-                println!("  that was part {}, seed {}, question {}", name, seed, count.answers - before);
-                let kept = compared.and_then(|_| keep(&wish.command, parts(seed)[which].as_mut(), count.answers - before));
-                if let Err(why) = kept {
-                    println!("  {}", why);
-                }
-                break;
+            let found = compare_part(&wish.command, parts(seed)[which].as_mut(), count);
+            if let Ok(Found::Nothing) = found {
+                continue;
             }
+            good = false;
+            let asked = count.answers - before;
+            println!("  that was in part {}, seed {}, after {} questions", name, seed, asked);
+            let kept = match found {
+                Ok(Found::Wrong) => keep(&wish.command, parts(seed)[which].as_mut(), asked),
+                other => other.map(|_| ()),
+            };
+            if let Err(why) = kept {
+                println!("  {}", why);
+                count.wrong = count.wrong.max(1);
+            }
+            break;
         }
         if said.elapsed() > NOW_AND_THEN {
             said = Instant::now();
@@ -241,8 +259,7 @@ pub fn compare(wish: &Wish) -> bool {
     }
     let sum = all(&counts);
     println!(
-        "at scale, {} rounds with seeds {} to {}, {}, {} seconds:",
-        rounds,
+        "at scale, seeds {} to {}, a round with each, {}, {} seconds:",
         wish.seed,
         wish.seed.wrapping_add(rounds.max(1) - 1),
         std::env::consts::ARCH,

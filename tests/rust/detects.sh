@@ -94,12 +94,15 @@ grep -h '(1.0 - t).powf(p)' "$source/limiter.rs" >>"$room/source/limiter.rs"
 same "a source with that power twice is refused" 1 "$(prepared)"
 
 # Programs that are wrong in one thing: the oracle's reader of strips, with a slip in it.
-wrong_reader() { # NAME FILE OLD NEW
+wrong_oracle() { # FILE OLD NEW
     rm -rf "$room/reader" && cp -r oracle/src "$room/reader"
-    sed -i "s/$3/$4/" "$room/reader/$2.rs"
-    if cmp -s "oracle/src/$2.rs" "$room/reader/$2.rs"; then echo "not ok there is no '$3' in $2.rs"; fi
-    if rustc --edition 2021 -A warnings --crate-name oracle -o "$room/reader/oracle" --extern sonora_as_is=target/oracle/libsonora_as_is.rlib \
-        --extern sonora_ruled=target/oracle/libsonora_ruled.rlib "$room/reader/main.rs"; then
+    sed -i "s/$2/$3/" "$room/reader/$1.rs"
+    if cmp -s "oracle/src/$1.rs" "$room/reader/$1.rs"; then echo "not ok there is no '$2' in $1.rs"; fi
+    rustc --edition 2021 -A warnings --crate-name oracle -o "$room/reader/oracle" --extern sonora_as_is=target/oracle/libsonora_as_is.rlib \
+        --extern sonora_ruled=target/oracle/libsonora_ruled.rlib "$room/reader/main.rs"
+}
+wrong_reader() { # NAME FILE OLD NEW
+    if wrong_oracle "$2" "$3" "$4"; then
         target/oracle/oracle strips --count 100 -- "$room/reader/oracle" strip >/dev/null 2>&1
         same "strips: it finds $1" 1 $?
     else
@@ -115,6 +118,42 @@ wrong_reader "one byte taken for the end" strip 'if bytes.is_empty() {' 'if byte
 wrong_reader "a threshold of 201 taken" judge '(1..=200).contains' '(1..=201).contains'
 wrong_reader "a negative zero taken in a setting" judge '&& !self.0.contains(&0x8000_0000)' ''
 wrong_reader "an rms of -150 taken" chain '-150.0 < rms' '-150.0 <= rms'
+
+# At scale: a wrong program is found, the questions are shrunk to a few, and what is kept shows the difference
+# with that program and none with the sound one.
+at_scale() { # NAME PART MOST COMMAND..
+    local name="scale, $2: it finds $1" part=$2 most=$3 kept=target/oracle/smallest lines
+    shift 3
+    rm -f "$kept".*
+    target/oracle/oracle scale --only "$part" -- "$@" >"$room/scale" 2>&1
+    same "$name" 1 $?
+    lines=$(wc -l <"$kept.questions")
+    if [ "${lines:-0}" -ge 1 ] && [ "$lines" -le "$most" ]; then
+        echo "ok $name, and $most questions or fewer are kept"
+    else
+        echo "not ok $name, and $most questions or fewer are kept: ${lines:-none}"
+    fi
+    "$@" <"$kept.questions" >"$room/again" 2>/dev/null
+    if cmp -s "$room/again" "$kept.due"; then echo "not ok $name, and they show it again"; else echo "ok $name, and they show it again"; fi
+    tests/run-program replay <"$kept.questions" >"$room/again"
+    same_file "$name, and the sound program answers them as it must" "$kept.due" "$room/again"
+    rm -f "$kept".*
+}
+damaged() { echo "tests/run-program replay | $1"; }
+at_scale "one digit that is altered" ratio 1 bash -c "$(damaged "sed 's/^\(00000000 41.\)7/\18/'")"
+at_scale "a ring of three that is altered" ring 4 bash -c "$(damaged "sed '/^.\{18\}00000003/s/f\$/e/; /^.\{18\}00000003/s/0\$/1/'")"
+at_scale "a frame that is said not to be published" chain 201 bash -c "$(damaged "sed 's/^00000000 00000001 00000002/00000000 00000001 00000001/'")"
+at_scale "an answer that is missing at the end" curve 1 bash -c "$(damaged "sed '\$d'")"
+at_scale "an answer too many" limiter 1 bash -c "$(damaged "sed '\$p'")"
+at_scale "that the program fails" estimator 1 bash -c "$(damaged 'cat; exit 3')"
+at_scale "that nothing is answered" applier 1 bash -c "$(damaged 'cat >/dev/null')"
+# A program with a slip in it, whose state is wrong from there on: the oracle's own answers, with the slip.
+wrong_oracle protector 'self.elapsed > 400' 'self.elapsed >= 400'
+at_scale "a peak that is pushed a frame early" protector 41 "$room/reader/oracle" replay
+wrong_oracle speech 'self.preliminary = self.reliable' 'self.preliminary.left = self.reliable.left'
+at_scale "a cough that leaves a trace" speech 4 "$room/reader/oracle" replay
+target/oracle/oracle scale --only nothing -- cat >/dev/null 2>&1
+same "scale: a part that there is not is refused" 2 $?
 
 # The Rust itself is compared, and not only what the oracle has by hand: a slip in each of the parts that
 # judge, in the Rust that the oracle is built over, is found.
@@ -134,4 +173,6 @@ for part in speech protector controller chain; do
 done
 target/oracle/oracle strips --count 100 -- "$room/other/target/oracle/oracle" strip >/dev/null 2>&1
 same "strips: it finds a slip in the Rust" 1 $?
+"$room/other/target/oracle/oracle" scale --only protector -- tests/run-program replay >/dev/null 2>&1
+same "scale, protector: it finds a slip in the Rust" 1 $?
 same "ratio: where the Rust has no slip, it finds none" 0 "$(slipped ratio)"
