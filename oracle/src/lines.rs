@@ -8,6 +8,23 @@ pub const FIGURE: u32 = 2;
 pub const SAMPLE: u32 = 3;
 pub const SETTING: u32 = 4;
 
+/// The questions about a frame of sound, with the number of figures that stand before its samples.
+const FRAMES: [(&str, usize); 5] = [
+    ("estimator.level", 2),
+    ("applier.apply", 2),
+    ("limiter.process", 2),
+    ("controller.process", 8),
+    ("chain.step", 7),
+];
+
+/// The questions about a frame of which only figures are known.
+pub const SILENT_FRAMES: [&str; 2] = ["speech.update", "protector.analyze"];
+
+/// How many figures of a question stand before its samples, where it is about a frame of sound.
+pub fn before_samples(name: &str) -> Option<usize> {
+    FRAMES.iter().find(|(frame, _)| *frame == name).map(|&(_, before)| before)
+}
+
 /// Figures, each with one space before it.
 fn put(line: &mut String, figures: &[u32]) {
     line.reserve(9 * figures.len());

@@ -11,8 +11,8 @@
 //!                                         M minutes are over, or until an answer differs. Then the questions
 //!                                         up to it are shrunk and kept beside the oracle: smallest.questions,
 //!                                         which COMMAND reads, with what is due and what came. Smallest is
-//!                                         that no single question of them can be left out, and not that no
-//!                                         other questions are fewer; a question itself is not made smaller
+//!                                         that no single question of them can be left out, and that samples
+//!                                         which do not matter are 0; other questions may still be fewer
 //!   oracle strip                          reads a strip, and prints what the program `strip` must print
 //!   oracle strips [--seed N] [--count N] -- COMMAND..
 //!                                         runs COMMAND on the fixed strips and on so many random ones

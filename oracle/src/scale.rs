@@ -2,6 +2,7 @@
 //! or the minutes are over or an answer differs. What is counted is what was compared.
 
 use crate::drive::{self, Length, Part};
+use crate::lines;
 use crate::shrink;
 use std::time::{Duration, Instant};
 
@@ -19,18 +20,6 @@ pub struct Wish {
 
 /// How often a running line is printed.
 const NOW_AND_THEN: Duration = Duration::from_secs(20);
-
-/// The questions about a frame, with the number of figures that stand before its samples; none where a frame
-/// has no sound.
-const FRAMES: [(&str, Option<usize>); 7] = [
-    ("estimator.level", Some(2)),
-    ("applier.apply", Some(2)),
-    ("limiter.process", Some(2)),
-    ("speech.update", None),
-    ("protector.analyze", None),
-    ("controller.process", Some(8)),
-    ("chain.step", Some(7)),
-];
 
 /// What was compared. Frames and samples are those that are accepted.
 #[derive(Clone, Default)]
@@ -51,13 +40,11 @@ impl Count {
             return;
         }
         let name = question.split(' ').next().unwrap_or("");
-        match FRAMES.iter().find(|(frame, _)| *frame == name) {
-            Some((_, Some(before))) => {
-                self.sounding += 1;
-                self.samples += (question.len() - name.len()) / 9 - before;
-            }
-            Some((_, None)) => self.silent += 1,
-            None => (),
+        if let Some(before) = lines::before_samples(name) {
+            self.sounding += 1;
+            self.samples += (question.len() - name.len()) / 9 - before;
+        } else if lines::SILENT_FRAMES.contains(&name) {
+            self.silent += 1;
         }
     }
 
@@ -197,9 +184,7 @@ fn keep(command: &[String], part: &mut dyn Part, asked: usize) -> Result<(), Str
     }
     write("smallest.questions", &found.kept)?;
     write("smallest.due", &came.due)?;
-    write("smallest.got", &came.got)?;
-    println!("  again: {} <smallest.questions", command.join(" "));
-    Ok(())
+    write("smallest.got", &came.got)
 }
 
 /// Compares; true where nothing differs.

@@ -1,5 +1,5 @@
-//! Makes a list of questions shorter on which a command fails, as long as it still fails on what is left. What
-//! is due to a shorter list is asked of again.rs each time, from the start.
+//! Makes a list of questions shorter on which a command fails, as long as it still fails on what is left, and then
+//! its frames quieter. What is due to a shorter list is asked of again.rs each time, from the start.
 
 use crate::again::Desk;
 use crate::drive;
@@ -103,6 +103,43 @@ impl Shrinking<'_> {
         }
         Ok(any)
     }
+
+    /// Makes the samples of a question 0 wherever the command still fails: all of them, then halves, and so on
+    /// down to single ones.
+    fn silence(&mut self, at: usize) -> Result<(), String> {
+        let (name, mut figures) = match self.kept.get(at).and_then(|line| lines::read(line)) {
+            Some((name, figures)) => (name.to_string(), figures),
+            None => return Ok(()),
+        };
+        let before = lines::before_samples(&name).unwrap_or(figures.len());
+        let mut size = figures.len() - before;
+        while size > 0 {
+            for from in (before..figures.len()).step_by(size) {
+                let mut quieter = figures.clone();
+                for sample in quieter.iter_mut().skip(from).take(size) {
+                    *sample = 0;
+                }
+                if quieter == figures || self.runs >= MOST_RUNS {
+                    continue;
+                }
+                let mut questions = self.kept.clone();
+                questions[at] = lines::question(&name, &quieter);
+                if self.keep(questions)? {
+                    figures = quieter;
+                }
+                if at >= self.kept.len() {
+                    return Ok(());
+                }
+            }
+            size /= 2;
+        }
+        Ok(())
+    }
+
+    /// Whether it came to its end: then no single question can be left out.
+    pub fn is_done(&self) -> bool {
+        self.runs < MOST_RUNS
+    }
 }
 
 /// Shrinks a list. None where the command does not fail on it.
@@ -122,12 +159,8 @@ pub fn smallest(command: &[String], questions: Vec<String>) -> Result<Option<Shr
         size = (size / 2).min(all.kept.len() / 2);
     }
     while all.drop_runs_of(1)? {}
-    Ok(Some(all))
-}
-
-impl Shrinking<'_> {
-    /// Whether no single question can be left out: the last pass came to its end.
-    pub fn is_done(&self) -> bool {
-        self.runs < MOST_RUNS
+    for at in 0..all.kept.len() {
+        all.silence(at)?;
     }
+    Ok(Some(all))
 }

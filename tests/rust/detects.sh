@@ -133,8 +133,11 @@ at_scale() { # NAME PART MOST COMMAND..
     else
         echo "not ok $name, and $most questions or fewer are kept: ${lines:-none}"
     fi
-    "$@" <"$kept.questions" >"$room/again" 2>/dev/null
-    if cmp -s "$room/again" "$kept.due"; then echo "not ok $name, and they show it again"; else echo "ok $name, and they show it again"; fi
+    if "$@" <"$kept.questions" >"$room/again" 2>/dev/null && cmp -s "$room/again" "$kept.due"; then
+        echo "not ok $name, and they show it again"
+    else
+        echo "ok $name, and they show it again"
+    fi
     tests/run-program replay <"$kept.questions" >"$room/again"
     same_file "$name, and the sound program answers them as it must" "$kept.due" "$room/again"
     rm -f "$kept".*
