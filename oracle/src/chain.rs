@@ -433,7 +433,7 @@ impl Part for Chains {
                 _ => return None,
             },
             ("chain.step", [channels, samples, p, rms, peak, noise, envelope, data @ ..]) => {
-                let frame = Frame::read(&[&[*channels, *samples], data].concat())?;
+                let frame = Frame::read(&[&[*channels, *samples][..], data].concat())?;
                 desk.step(&[*p, *rms, *peak, *noise, *envelope], &frame, to).is_some()
             }
             _ => return None,

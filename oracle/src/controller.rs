@@ -638,7 +638,7 @@ impl Part for Controllers {
             },
             ("controller.set", state) => desk.set(State::read(state)?, to),
             ("controller.process", [channels, samples, a, b, c, d, e, f, data @ ..]) => {
-                let frame = Frame::read(&[&[*channels, *samples], data].concat())?;
+                let frame = Frame::read(&[&[*channels, *samples][..], data].concat())?;
                 desk.process(&Info([*a, *b, *c, *d, *e, *f]), &frame, to)
             }
             _ => return None,

@@ -4,6 +4,7 @@
 use crate::drive::{self, Length, Part};
 use crate::lines;
 use crate::shrink;
+use std::path::PathBuf;
 use std::time::{Duration, Instant};
 
 pub enum Until {
@@ -143,9 +144,17 @@ fn compare_part(command: &[String], part: &mut dyn Part, count: &mut Count) -> R
     Ok(found)
 }
 
+/// What is kept of a failing case: the questions, what is due, and what came.
+const KEPT: [&str; 3] = ["smallest.questions", "smallest.due", "smallest.got"];
+
+/// A file beside the oracle.
+fn beside(name: &str) -> Result<PathBuf, String> {
+    Ok(std::env::current_exe().map_err(|e| e.to_string())?.with_file_name(name))
+}
+
 /// Writes lines beside the oracle.
 fn write(name: &str, lines: &[String]) -> Result<(), String> {
-    let path = std::env::current_exe().map_err(|e| e.to_string())?.with_file_name(name);
+    let path = beside(name)?;
     let text: String = lines.iter().map(|line| format!("{}\n", line)).collect();
     std::fs::write(&path, text).map_err(|e| format!("cannot write {}: {}", path.display(), e))?;
     println!("  kept: {}", path.display());
@@ -155,17 +164,20 @@ fn write(name: &str, lines: &[String]) -> Result<(), String> {
 /// Asks a part's round once more, up to the question that was not answered as it must be, and keeps the
 /// smallest list of questions on which the command still fails.
 fn keep(command: &[String], part: &mut dyn Part, asked: usize) -> Result<(), String> {
-    let mut questions = Vec::new();
-    part.ask(&mut |question, _| {
-        questions.push(question);
-        questions.len() < asked
+    let [questions, due, got] = KEPT;
+    let (mut all, mut answers) = (Vec::new(), Vec::new());
+    part.ask(&mut |question, answer| {
+        all.push(question);
+        answers.push(answer);
+        all.len() < asked
     });
-    let before = questions.len();
-    let found = match shrink::smallest(command, questions)? {
+    let before = all.len();
+    let found = match shrink::smallest(command, all.clone())? {
         Some(found) => found,
         None => {
             println!("  asked once more, the command does not fail on these {} questions", before);
-            return Ok(());
+            write(questions, &all)?;
+            return write(due, &answers);
         }
     };
     let came = shrink::run(command, &found.kept)?;
@@ -174,17 +186,17 @@ fn keep(command: &[String], part: &mut dyn Part, asked: usize) -> Result<(), Str
         "  {}",
         if found.is_done() { "no single one of these can be left out" } else { "there it was stopped: fewer may do" }
     );
-    if let (Some(question), Some(due), Some(got)) = (found.kept.last(), came.due.last(), came.got.last()) {
-        if due != got {
-            tell(question, due, got);
+    if let (Some(question), Some(right), Some(wrong)) = (found.kept.last(), came.due.last(), came.got.last()) {
+        if right != wrong {
+            tell(question, right, wrong);
         }
     }
     for why in &came.others {
         println!("  {}", why);
     }
-    write("smallest.questions", &found.kept)?;
-    write("smallest.due", &came.due)?;
-    write("smallest.got", &came.got)
+    write(questions, &found.kept)?;
+    write(due, &came.due)?;
+    write(got, &came.got)
 }
 
 /// Compares; true where nothing differs.
@@ -198,6 +210,10 @@ pub fn compare(wish: &Wish) -> bool {
         counts.iter().for_each(|(_, count)| sum.add(count));
         sum
     };
+    // What an earlier run kept is not taken for this one's.
+    for path in KEPT.iter().flat_map(|name| beside(name)) {
+        let _ = std::fs::remove_file(path);
+    }
     let mut rounds = 0;
     let mut good = true;
     while good
@@ -219,7 +235,11 @@ pub fn compare(wish: &Wish) -> bool {
             println!("  that was in part {}, seed {}, after {} questions", name, seed, asked);
             let kept = match found {
                 Ok(Found::Wrong) => keep(&wish.command, parts(seed)[which].as_mut(), asked),
-                other => other.map(|_| ()),
+                Ok(_) => {
+                    println!("  the command answers as it must, so there is nothing to shrink");
+                    Ok(())
+                }
+                Err(why) => Err(why),
             };
             if let Err(why) = kept {
                 println!("  {}", why);
