@@ -184,7 +184,7 @@ fn keep(command: &[String], part: &mut dyn Part, asked: usize) -> Result<(), Str
     println!("  shrunk from {} to {} questions in {} runs of the command", before, found.kept.len(), found.runs);
     println!(
         "  {}",
-        if found.is_done() { "no single one of these can be left out" } else { "there it was stopped: fewer may do" }
+        if found.stopped { "there it was stopped: fewer may do" } else { "no single one of these can be left out" }
     );
     if let (Some(question), Some(right), Some(wrong)) = (found.kept.last(), came.due.last(), came.got.last()) {
         if right != wrong {

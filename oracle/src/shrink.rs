@@ -4,9 +4,11 @@
 use crate::again::Desk;
 use crate::drive;
 use crate::lines;
+use std::time::{Duration, Instant};
 
-/// How often the command is run at most.
+/// How often the command is run at most, and for how long.
 const MOST_RUNS: usize = 4000;
+const LONGEST: Duration = Duration::from_secs(300);
 
 /// What came of a list of questions.
 #[derive(Default)]
@@ -46,9 +48,17 @@ pub struct Shrinking<'a> {
     /// The shortest list yet on which the command fails.
     pub kept: Vec<String>,
     pub runs: usize,
+    /// Whether the runs or the time were over before the end.
+    pub stopped: bool,
+    start: Instant,
 }
 
 impl Shrinking<'_> {
+    fn goes_on(&mut self) -> bool {
+        self.stopped = self.stopped || self.runs >= MOST_RUNS || self.start.elapsed() > LONGEST;
+        !self.stopped
+    }
+
     fn fails(&mut self, questions: &[String]) -> Result<Option<usize>, String> {
         self.runs += 1;
         Ok(run(self.command, questions)?.fails())
@@ -92,7 +102,7 @@ impl Shrinking<'_> {
     fn drop_runs_of(&mut self, size: usize) -> Result<bool, String> {
         let (mut at, mut any) = (0, false);
         // The last question is the one whose answer is wrong.
-        while at + size < self.kept.len() && self.runs < MOST_RUNS {
+        while at + size < self.kept.len() && self.goes_on() {
             let mut fewer = self.kept.clone();
             fewer.drain(at..at + size);
             if self.keep(fewer)? {
@@ -119,7 +129,7 @@ impl Shrinking<'_> {
                 for sample in quieter.iter_mut().skip(from).take(size) {
                     *sample = 0;
                 }
-                if quieter == figures || self.runs >= MOST_RUNS {
+                if quieter == figures || !self.goes_on() {
                     continue;
                 }
                 let mut questions = self.kept.clone();
@@ -135,11 +145,6 @@ impl Shrinking<'_> {
         }
         Ok(())
     }
-
-    /// Whether it came to its end: then no single question can be left out.
-    pub fn is_done(&self) -> bool {
-        self.runs < MOST_RUNS
-    }
 }
 
 /// Shrinks a list. None where the command does not fail on it.
@@ -148,6 +153,8 @@ pub fn smallest(command: &[String], questions: Vec<String>) -> Result<Option<Shr
         command,
         kept: Vec::new(),
         runs: 0,
+        stopped: false,
+        start: Instant::now(),
     };
     if !all.keep(questions)? {
         return Ok(None);
@@ -162,5 +169,6 @@ pub fn smallest(command: &[String], questions: Vec<String>) -> Result<Option<Shr
     for at in 0..all.kept.len() {
         all.silence(at)?;
     }
+    while all.drop_runs_of(1)? {}
     Ok(Some(all))
 }
