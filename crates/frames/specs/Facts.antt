@@ -25,6 +25,14 @@ pub and-second : (a b : Bool) → a && b ≡ true → b ≡ true
 and-second true b h = h
 and-second false b h = absurd (false≢true h)
 
+-- Where five pass, each does.
+pub each-of-five : (a b c d e : Bool) → a && b && c && d && e ≡ true → (a ≡ true) × (b ≡ true) × (c ≡ true) × (d ≡ true) × (e ≡ true)
+each-of-five a b c d e h =
+    let four = and-first (a && b && c && d) e h in
+    let three = and-first (a && b && c) d four in
+    let two = and-first (a && b) c three in
+    (and-first a b two, and-second a b two, and-second (a && b) c three, and-second (a && b && c) d four, and-second (a && b && c && d) e h)
+
 -- a channel's number of samples
 pub record Samples (samples : ℕ) : Type 0 where
   pub least : 40 ≤ samples

@@ -13,7 +13,7 @@ use Rattle.rounding.specs.Laws.Order.{between, le-box}
 use Rattle.rounding.specs.Laws.Exact.{constant-number}
 use Rattle.floats.specs.Kinds.{isNegativeZero}
 use Rattle.floats.specs.Laws.Kinds.{passed, nought-value}
-use Rattle.frames.specs.Facts.{and-first, and-second}
+use Rattle.frames.specs.Facts.{and-first, and-second, each-of-five}
 use Rattle.intervals.specs.Interval.{Box, Boxed}
 use Rattle.units.specs.Ranges.{closed, above}
 use Rattle.units.specs.Figures as Figures
@@ -105,15 +105,13 @@ in-settings s t h =
     let c = Settings.setting (ofBits binary32 0x0000_0000) (s .initial .0) (ofBits binary32 0x4248_0000) in
     let d = Settings.setting (ofBits binary32 0x3c23_d70a) (s .change) (ofBits binary32 0x42c8_0000) in
     let e = Settings.setting (ofBits binary32 0xc2b4_0000) (s .noise .0) (ofBits binary32 0x0000_0000) in
-    let four = and-first (a && b && c && d) e h in
-    let three = and-first (a && b && c) d four in
-    let two = and-first (a && b) c three in
+    let p = each-of-five a b c d e h in
     record {
-      headroom = setting-box 0x0000_0000 0x4248_0000 tt tt (s .headroom .0) (t .headroom) (and-first a b two);
-      largest = above-box 0x0000_0000 0x4248_0000 tt tt (s .largest .0) (t .largest) (and-second a b two);
-      initial = setting-box 0x0000_0000 0x4248_0000 tt tt (s .initial .0) (t .initial) (and-second (a && b) c three);
-      change = setting-box 0x3c23_d70a 0x42c8_0000 tt tt (s .change) (t .change) (and-second (a && b && c) d four);
-      noise = setting-box 0xc2b4_0000 0x0000_0000 tt tt (s .noise .0) (t .noise) (and-second (a && b && c && d) e h);
+      headroom = setting-box 0x0000_0000 0x4248_0000 tt tt (s .headroom .0) (t .headroom) (p .0);
+      largest = above-box 0x0000_0000 0x4248_0000 tt tt (s .largest .0) (t .largest) (p .1);
+      initial = setting-box 0x0000_0000 0x4248_0000 tt tt (s .initial .0) (t .initial) (p .2);
+      change = setting-box 0x3c23_d70a 0x42c8_0000 tt tt (s .change) (t .change) (p .3);
+      noise = setting-box 0xc2b4_0000 0x0000_0000 tt tt (s .noise .0) (t .noise) (p .4);
     }
 
 -- where the figures lie
@@ -132,12 +130,10 @@ in-figures i k h =
     let c = Figures.level (i .noise .0) in
     let d = Figures.headroom (i .headroom .0) in
     let e = Figures.envelope (i .envelope .0) in
-    let four = and-first (a && b && c && d) e h in
-    let three = and-first (a && b && c) d four in
-    let two = and-first (a && b) c three in
+    let p = each-of-five a b c d e h in
     record {
-      level = closed-box 0xc316_0000 0x4248_0000 tt tt (i .level .0) (k .level) (and-second a b two);
-      noise = closed-box 0xc316_0000 0x4248_0000 tt tt (i .noise .0) (k .noise) (and-second (a && b) c three);
-      headroom = above-box 0x0000_0000 0x42c8_0000 tt tt (i .headroom .0) (k .headroom) (and-second (a && b && c) d four);
-      envelope = closed-box 0xc316_0000 0x42c8_0000 tt tt (i .envelope .0) (k .envelope) (and-second (a && b && c && d) e h);
+      level = closed-box 0xc316_0000 0x4248_0000 tt tt (i .level .0) (k .level) (p .1);
+      noise = closed-box 0xc316_0000 0x4248_0000 tt tt (i .noise .0) (k .noise) (p .2);
+      headroom = above-box 0x0000_0000 0x42c8_0000 tt tt (i .headroom .0) (k .headroom) (p .3);
+      envelope = closed-box 0xc316_0000 0x42c8_0000 tt tt (i .envelope .0) (k .envelope) (p .4);
     }

@@ -7,7 +7,7 @@ use lib.Ieee.{Float, binary32, fits, ofBits, eq, le, lt, size as bits}
 use Rattle.rounding.specs.Laws.Exact.{constant-number}
 use Rattle.rounding.specs.Laws.Order.{le→units, units→le}
 use Rattle.intervals.specs.Laws.Choice.{leq-trans}
-use Rattle.frames.specs.Facts.{and-first, and-second}
+use Rattle.frames.specs.Facts.{and-first, and-second, each-of-five}
 use Rattle.units.specs.Figures as Range
 use Rattle.units.specs.Ranges as Ranges
 use Rattle.units.specs.Settings as Settings
@@ -84,21 +84,8 @@ pub record Inside (f : Figures) : Type 0 where
 pub inside : (f : Figures) → accepted f ≡ true → Inside f
 unfolding accepted
 inside f h =
-    let t1 = Range.probability (f .probability) in
-    let t2 = Range.rms (f .rms .0) in
-    let t3 = Range.level (f .peak .0) in
-    let t4 = Range.level (f .noise .0) in
-    let t5 = Range.envelope (f .envelope .0) in
-    let a4 = and-first (t1 && t2 && t3 && t4) t5 h in
-    let a3 = and-first (t1 && t2 && t3) t4 a4 in
-    let a2 = and-first (t1 && t2) t3 a3 in
-    record {
-      probability = and-first t1 t2 a2;
-      rms = and-second t1 t2 a2;
-      peak = and-second (t1 && t2) t3 a3;
-      noise = and-second (t1 && t2 && t3) t4 a4;
-      envelope = and-second (t1 && t2 && t3 && t4) t5 h;
-    }
+    let p = each-of-five (Range.probability (f .probability)) (Range.rms (f .rms .0)) (Range.level (f .peak .0)) (Range.level (f .noise .0)) (Range.envelope (f .envelope .0)) h in
+    record { probability = p .0; rms = p .1; peak = p .2; noise = p .3; envelope = p .4 }
 
 -- A published level, from -90 to 30, is a level of the speech, from -150 to 50.
 pub published-level : (x : Float) → T (fits binary32 x) → Ranges.closed (ofBits binary32 0xc2b4_0000) x (ofBits binary32 0x41f0_0000) ≡ true → Range.level x ≡ true

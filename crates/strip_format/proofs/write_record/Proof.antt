@@ -1,14 +1,10 @@
 -- `strip_format::write_record` meets its contract: what is not refused is copied where it fits. Assumes nothing.
-use mathlib.Core.Path.{_≡_, sym, ap, _∙_}
-use mathlib.Core.List.{List}
-use Prim.Native.Nat.{ℕ}
+use mathlib.Core.Path.{ap, _∙_}
 use borrow.Author.Needs.{needs}
-use Rattle.units.specs.Replies.{done}
 use Rattle.strip_format.specs.Format.{recordBytes}
-use Rattle.units.specs.Output.{Put, put}
+use Rattle.units.specs.Output.{Put}
 use Rattle.strip_format.specs.Calls.{recordRefusal, putRecord}
-use Rattle.strip_format.specs.Laws.Steps.{put-refused}
-use Rattle.units.specs.declared.figures.Figures.{Figures}
+use Rattle.strip_format.specs.Laws.Steps.{put-taken, put-left}
 use Rattle.strip_format.proofs.write_record.Statement.{statement}
 use Rattle.strip_format.proofs.write_record.Tie as tie
 
@@ -27,30 +23,26 @@ copy-requires c κs = tt
 same-length : tie.Need-same-length
 same-length c = search needs
 
-accepted : (h : Figures) (bytes out : List ℕ) (reply : ℕ) → bytes ≡ recordBytes h → reply ≡ recordRefusal h → reply ≡ done → put done bytes out ≡ putRecord h out
-unfolding putRecord
-accepted h bytes out reply b r d = rw (b, ← r, d)
-
-refused : (h : Figures) (out : List ℕ) (reply : ℕ) → reply ≡ recordRefusal h → (reply ≡ done → ⊥) → record { reply = reply; out = out } ≡ putRecord h out
-unfolding putRecord
-refused h out reply r n = rw (← r) (sym (put-refused reply (recordBytes h) out n))
-
 returns : tie.Need-returns
+unfolding putRecord
 returns c =
     let at-copy = c .before .before in
     let at-bytes = at-copy .before .before .before in
     let at-reply = at-bytes .before .before in
     let start = at-reply .before .before in
+    let x = start .args .figures in
     let same =
-    accepted (start .args .figures) (at-bytes .record-bytes .result) (start .args .out .now) (at-reply .record-refusal .result) (at-bytes .record-bytes .ensures)
+    put-taken (recordRefusal x) (at-reply .record-refusal .result) (recordBytes x) (at-bytes .record-bytes .result) (start .args .out .now) (at-bytes .record-bytes .ensures)
     (at-reply .record-refusal .ensures) (at-bytes .before .if1 .taken) in
     (at-copy .copy .ensures .0 ∙ ap (λ (p : Put). p .reply) same, at-copy .copy .ensures .1 ∙ ap (λ (p : Put). p .out) same)
 
 returns-2 : tie.Need-returns-2
+unfolding putRecord
 returns-2 c =
     let at-reply = c .before in
     let start = at-reply .before .before in
-    let same = refused (start .args .figures) (start .args .out .now) (at-reply .record-refusal .result) (at-reply .record-refusal .ensures) (c .if1 .left) in
+    let x = start .args .figures in
+    let same = put-left (recordRefusal x) (at-reply .record-refusal .result) (recordBytes x) (start .args .out .now) (at-reply .record-refusal .ensures) (c .if1 .left) in
     (ap (λ (p : Put). p .reply) same, ap (λ (p : Put). p .out) same)
 
 pub write-record-spec : {M : Type 1} → statement M

@@ -7,16 +7,19 @@ use Prim.Native.Nat.{ℕ, _+_, _≤_}
 use native.Mathlib.Omega.{arith}
 use lib.Dec.{T}
 use lib.Ieee.{Float, nan, inf, fin, binary32, lt, le, eq, isNan, ofBits}
+use lib.Ieee.Bits.{is-true}
 use lib.Ieee.Fits.{and-l, and-r}
 use lib.ListN.{length}
 use Rattle.bits.specs.Floats.{floatOf, patternOf}
 use Rattle.bits.specs.Laws.RoundTrip.{float-nan, pattern-back}
 use Rattle.floats.specs.Kinds.{isNegativeZero}
+use Rattle.floats.specs.Laws.Kinds.{passed}
 use Rattle.units.specs.Replies.{refusal}
 use Rattle.units.specs.Ranges.{closed, inside, above}
 use Rattle.units.specs.Settings as Settings
 use Rattle.units.specs.Figures as Figure
 use Rattle.units.specs.declared.settings.Settings.{Settings}
+use Rattle.frames.specs.Facts.{each-of-five}
 use Rattle.units.specs.declared.figures.Figures.{Figures}
 use Rattle.strip_format.specs.Fields.{numberAt}
 use Rattle.strip_format.specs.Laws.Fields.{Bytes, number-small}
@@ -66,15 +69,13 @@ plain-settings s h =
     let c = Settings.setting (ofBits binary32 0x0000_0000) (s .initial .0) (ofBits binary32 0x4248_0000) in
     let d = Settings.setting (ofBits binary32 0x3c23_d70a) (s .change) (ofBits binary32 0x42c8_0000) in
     let e = Settings.setting (ofBits binary32 0xc2b4_0000) (s .noise .0) (ofBits binary32 0x0000_0000) in
-    let four = and-l (a && b && c && d) e h in
-    let three = and-l (a && b && c) d four in
-    let two = and-l (a && b) c three in
+    let p = each-of-five a b c d e (is-true (a && b && c && d && e) h) in
     record {
-      headroom = setting-number (ofBits binary32 0x0000_0000) (s .headroom .0) (ofBits binary32 0x4248_0000) (and-l a b two);
-      largest = above-number (ofBits binary32 0x0000_0000) (s .largest .0) (ofBits binary32 0x4248_0000) (and-r a b two);
-      initial = setting-number (ofBits binary32 0x0000_0000) (s .initial .0) (ofBits binary32 0x4248_0000) (and-r (a && b) c three);
-      change = setting-number (ofBits binary32 0x3c23_d70a) (s .change) (ofBits binary32 0x42c8_0000) (and-r (a && b && c) d four);
-      noise = setting-number (ofBits binary32 0xc2b4_0000) (s .noise .0) (ofBits binary32 0x0000_0000) (and-r (a && b && c && d) e h);
+      headroom = setting-number (ofBits binary32 0x0000_0000) (s .headroom .0) (ofBits binary32 0x4248_0000) (passed (p .0));
+      largest = above-number (ofBits binary32 0x0000_0000) (s .largest .0) (ofBits binary32 0x4248_0000) (passed (p .1));
+      initial = setting-number (ofBits binary32 0x0000_0000) (s .initial .0) (ofBits binary32 0x4248_0000) (passed (p .2));
+      change = setting-number (ofBits binary32 0x3c23_d70a) (s .change) (ofBits binary32 0x42c8_0000) (passed (p .3));
+      noise = setting-number (ofBits binary32 0xc2b4_0000) (s .noise .0) (ofBits binary32 0x0000_0000) (passed (p .4));
     }
 
 -- the five figures are no NaNs
@@ -94,15 +95,13 @@ plain-figures f h =
     let c = Figure.level (f .peak .0) in
     let d = Figure.level (f .noise .0) in
     let e = Figure.envelope (f .envelope .0) in
-    let four = and-l (a && b && c && d) e h in
-    let three = and-l (a && b && c) d four in
-    let two = and-l (a && b) c three in
+    let p = each-of-five a b c d e (is-true (a && b && c && d && e) h) in
     record {
-      probability = closed-number (ofBits binary32 0x0000_0000) (f .probability) (ofBits binary32 0x3f80_0000) (and-l a b two);
-      rms = inside-number (ofBits binary32 0xc316_0000) (f .rms .0) (ofBits binary32 0x4248_0000) (and-r a b two);
-      peak = closed-number (ofBits binary32 0xc316_0000) (f .peak .0) (ofBits binary32 0x4248_0000) (and-r (a && b) c three);
-      noise = closed-number (ofBits binary32 0xc316_0000) (f .noise .0) (ofBits binary32 0x4248_0000) (and-r (a && b && c) d four);
-      envelope = closed-number (ofBits binary32 0xc316_0000) (f .envelope .0) (ofBits binary32 0x42c8_0000) (and-r (a && b && c && d) e h);
+      probability = closed-number (ofBits binary32 0x0000_0000) (f .probability) (ofBits binary32 0x3f80_0000) (passed (p .0));
+      rms = inside-number (ofBits binary32 0xc316_0000) (f .rms .0) (ofBits binary32 0x4248_0000) (passed (p .1));
+      peak = closed-number (ofBits binary32 0xc316_0000) (f .peak .0) (ofBits binary32 0x4248_0000) (passed (p .2));
+      noise = closed-number (ofBits binary32 0xc316_0000) (f .noise .0) (ofBits binary32 0x4248_0000) (passed (p .3));
+      envelope = closed-number (ofBits binary32 0xc316_0000) (f .envelope .0) (ofBits binary32 0x42c8_0000) (passed (p .4));
     }
 
 -- Where nothing is refused each kind of input is as it should be.

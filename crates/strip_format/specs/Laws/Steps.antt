@@ -127,6 +127,13 @@ pub put-refused : (n : ℕ) (bytes out : List ℕ) → (n ≡ done → ⊥) → 
 unfolding put
 put-refused n bytes out h = simp (ne-eqb n done h)
 
+-- What a writer answers that has worked out what is refused, and the bytes where nothing is:
+pub put-taken : (refused reply : ℕ) (bytes made out : List ℕ) → made ≡ bytes → reply ≡ refused → reply ≡ done → put done made out ≡ put refused bytes out
+put-taken refused reply bytes made out b r d = rw (b, ← r, d)
+
+pub put-left : (refused reply : ℕ) (bytes out : List ℕ) → reply ≡ refused → (reply ≡ done → ⊥) → record { reply = reply; out = out } ≡ put refused bytes out
+put-left refused reply bytes out r n = rw (← r) (sym (put-refused reply bytes out n))
+
 -- What is answered with done was not refused, and stands at the buffer's start.
 pub put-done : (n : ℕ) (bytes out : List ℕ) → put n bytes out .reply ≡ done
     → (n ≡ done) × (put n bytes out .out ≡ bytes ++ drop (length bytes) out)
