@@ -2,5 +2,6 @@
 pub mod Envelope
 pub mod Estimator
 pub mod Range
+pub mod Lanes
 pub mod Laws
 pub mod Examples

@@ -3,10 +3,15 @@
 
 ghost use mathlib.Core.Path.{_≡_};
 ghost use mathlib.Core.List.{List};
-ghost use Prim.Native.Nat.{_*_, _≤_, _+_};
-ghost use lib.ListN.{length, replicate};
-ghost use lib.Ieee.{binary32, ofBits};
-ghost use Rattle.fixed_digital_level_estimator.specs.Envelope.{peakFrom, peaksIn, peaksOver, raised, smoothed, silence, decayed};
+ghost use Prim.Native.Nat.{_*_, _≤_, _+_, _%_};
+ghost use lib.ListN.{length, drop};
+ghost use Rattle.lists.specs.Each.{Each};
+ghost use Rattle.floats.specs.Choice.{larger};
+ghost use Rattle.floats.specs.Kinds.{magnitude};
+ghost use Rattle.floats.specs.Laws.Kinds.{nought};
+ghost use Rattle.fixed_digital_level_estimator.specs.Range.{Sound};
+ghost use Rattle.fixed_digital_level_estimator.specs.Lanes.{Standing, Raised, columnFrom};
+ghost use Rattle.fixed_digital_level_estimator.specs.Envelope.{peaksOver, raised, smoothed, silence, decayed};
 ghost use Rattle.fixed_digital_level_estimator.specs.Estimator.{passes, made, computed, changed, cleared, heard};
 use units::kinds::LinearS16;
 use units::replies::DONE;
@@ -45,51 +50,124 @@ pub struct Heard {
     pub level: LinearS16,
 }
 
-// The largest magnitude of some samples and a value that was found before.
-fn peak(found: f32, part: &[f32]) -> f32
-    ensures { λ r. ⌜ r ≡ peakFrom found (now (part .entry)) ⌝ }
-{
-    let mut largest = found;
-    let mut i = 0;
-    while i < part.len() {
-        largest = floats::larger(largest, floats::magnitude(part[i]));
-        i += 1;
-    }
-    largest
+// The largest magnitudes that were found so far, of every fourth sample each: the machine takes four
+// at a time.
+struct Lanes {
+    a: f32,
+    b: f32,
+    c: f32,
+    d: f32,
 }
 
-// The largest magnitudes of a channel's twenty sub-frames, each with a value that was found before.
-fn channel_peaks(found: [f32; 20], channel: &[f32], part: usize) -> [f32; 20]
-    requires { ⌜ length (now channel) ≡ 20 * part ⌝ }
-    ensures { λ r. ⌜ r ≡ peaksIn part found (now (channel .entry)) ⌝ }
+// A lane raised to a sample's magnitude: its bits without the highest, which is the sign.
+fn higher(lane: f32, x: f32) -> f32
+    requires { ⌜ Sound x ⌝ }
+    ensures { λ r. ⌜ r ≡ larger lane (magnitude x) ⌝ }
 {
-    let mut peaks = found;
-    let mut from = 0;
-    let mut k = 0;
-    while k < 20 {
-        let to = from + part;
-        let largest = peak(peaks[k], &channel[from..to]);
-        peaks[k] = largest;
-        from = to;
-        k += 1;
+    floats::larger(lane, f32::from_bits(f32::to_bits(x) % 2147483648))
+}
+
+// Each lane raised to its sample of four.
+fn raise_by_four(lanes: Lanes, block: &[f32]) -> Lanes
+    requires { ⌜ Standing lanes × (length (now block) ≡ 4) × Each Sound (now block) ⌝ }
+    ensures { λ r. ⌜ Raised lanes (now (block .entry)) r ⌝ }
+{
+    let a = higher(lanes.a, block[0]);
+    let b = higher(lanes.b, block[1]);
+    let c = higher(lanes.c, block[2]);
+    let d = higher(lanes.d, block[3]);
+    Lanes { a, b, c, d }
+}
+
+// The lanes raised by samples whose number is a multiple of four.
+fn raise_by_blocks(lanes: Lanes, blocks: &[f32]) -> Lanes
+    requires { ⌜ Standing lanes × (length (now blocks) % 4 ≡ 0) × Each Sound (now blocks) ⌝ }
+    ensures { λ r. ⌜ Raised lanes (now (blocks .entry)) r ⌝ }
+{
+    let mut found = lanes;
+    let mut i = 0;
+    while i < blocks.len() {
+        let to = i + 4;
+        let next = raise_by_four(found, &blocks[i..to]);
+        found = next;
+        i = to;
     }
-    peaks
+    found
+}
+
+// The first lane raised by each sample.
+fn raise_by_each(lanes: Lanes, some: &[f32]) -> Lanes
+    requires { ⌜ Standing lanes × Each Sound (now some) ⌝ }
+    ensures { λ r. ⌜ Raised lanes (now (some .entry)) r ⌝ }
+{
+    let mut a = lanes.a;
+    let mut i = 0;
+    while i < some.len() {
+        a = higher(a, some[i]);
+        i += 1;
+    }
+    Lanes {
+        a,
+        b: lanes.b,
+        c: lanes.c,
+        d: lanes.d,
+    }
+}
+
+// The lanes raised by a sub-frame. That of 48 kHz has a way of its own, which has no loop when it runs.
+fn raise_by_part(lanes: Lanes, part: &[f32]) -> Lanes
+    requires { ⌜ Standing lanes × Each Sound (now part) ⌝ }
+    ensures { λ r. ⌜ Raised lanes (now (part .entry)) r ⌝ }
+{
+    let n = part.len();
+    if n == 24 {
+        raise_by_blocks(lanes, &part[..24])
+    } else {
+        let whole = n - n % 4;
+        let most = raise_by_blocks(lanes, &part[..whole]);
+        raise_by_each(most, &part[whole..])
+    }
+}
+
+// The largest magnitude of one sub-frame over all channels.
+fn column_peak(frame: &[f32], at: usize, channels: usize, samples: usize, part: usize) -> f32
+    requires { ⌜ (length (now frame) ≡ channels * samples) × (at + part ≤ samples) × Each Sound (now frame) ⌝ }
+    ensures { λ r. ⌜ r ≡ columnFrom channels samples part nought (drop at (now (frame .entry))) ⌝ }
+{
+    let mut lanes = Lanes {
+        a: 0.0,
+        b: 0.0,
+        c: 0.0,
+        d: 0.0,
+    };
+    let mut from = at;
+    let mut left = channels;
+    while 0 < left {
+        let to = from + part;
+        let next = raise_by_part(lanes, &frame[from..to]);
+        lanes = next;
+        from += samples;
+        left -= 1;
+    }
+    floats::larger(
+        floats::larger(floats::larger(lanes.a, lanes.b), lanes.c),
+        lanes.d,
+    )
 }
 
 // The largest magnitudes of the twenty sub-frames over all channels.
 fn frame_peaks(frame: &[f32], channels: usize, samples: usize, part: usize) -> [f32; 20]
-    requires { ⌜ (length (now frame) ≡ channels * samples) × (samples ≡ 20 * part) ⌝ }
+    requires { ⌜ (length (now frame) ≡ channels * samples) × (samples ≡ 20 * part) × Each Sound (now frame) ⌝ }
     ensures { λ r. ⌜ r ≡ peaksOver channels samples part silence (now (frame .entry)) ⌝ }
 {
     let mut peaks = [0.0; 20];
-    let mut start = 0;
-    let mut left = channels;
-    while 0 < left {
-        let end = start + samples;
-        let next = channel_peaks(peaks, &frame[start..end], part);
-        peaks = next;
-        start = end;
-        left -= 1;
+    let mut at = 0;
+    let mut k = 0;
+    while k < 20 {
+        let largest = column_peak(frame, at, channels, samples, part);
+        peaks[k] = largest;
+        at += part;
+        k += 1;
     }
     peaks
 }

@@ -2,12 +2,12 @@
 -- proved once over what is done to a part. `left` counts the parts that are still to come. Laws; `Walking` is the loop's invariant.
 -- Assumes nothing.
 use mathlib.Core.Path.{_≡_, refl, sym, ap, ap₂, _∙_}
-use mathlib.Core.List.{List, _++_, append-assoc}
+use mathlib.Core.List.{List, _++_, append-assoc, append-nil}
 use Prim.Native.Nat.{ℕ, zero, suc, _+_, _*_, _-_, _≤_, _<_}
-use native.Mathlib.Nat.{suc-mul}
+use native.Mathlib.Nat.{suc-mul, le-of-eq}
 use native.Mathlib.Omega.{arith}
-use lib.ListN.{length, take, drop, take-append-drop, length-append, length-drop}
-use lib.Seq.{length-take-le, take-at, drop-at}
+use lib.ListN.{length, take, drop, take-append-drop, length-append, length-drop, drop-of-length-le}
+use lib.Seq.{length-take-le, take-all, take-at, drop-at, drop-drop}
 use Rattle.frames.specs.Parts.{eachPart}
 
 module _ {A : Type 0} where
@@ -103,3 +103,54 @@ module _ {A : Type 0} where
       let room : n + k * n ≤ length xs = omega (arith, suc-mul k n) in
       ap₂ _++_ (agree (take n xs) (length-take-le n xs (omega arith)))
       (each-part-same f g n agree k (drop n xs) (rw length-drop (omega arith)))
+
+-- ---- a walk in blocks of any size
+module _ {A : Type 0} where
+  -- A block that keeps its length keeps the whole's.
+  pub block-length : (now part : List A) (at m : ℕ) → at + m ≤ length now → length part ≡ length (take m (drop at now))
+      → length (take at now ++ (part ++ drop m (drop at now))) ≡ length now
+  block-length now part at m room kept =
+      let behind = drop m (drop at now) in
+      let count : length part ≡ m = kept ∙ length-take-le m (drop at now) (rw length-drop (omega arith)) in
+      omega
+      (arith, length-append (take at now) (part ++ behind), length-append part behind, length-take-le at now (omega arith), length-drop m (drop at now), length-drop at now)
+
+  -- After a block of n, what is done is what was and the block, and what is left begins after it.
+  pub block-cut : (now part : List A) (at n : ℕ) → at + n ≤ length now → length part ≡ length (lent at (at + n) now)
+      → (take (at + n) (given-back at (at + n) now part) ≡ take at now ++ part) × (drop (at + n) (given-back at (at + n) now part) ≡ drop n (drop at now))
+  block-cut now part at n room kept =
+      let size : at + n - at ≡ n = omega arith in
+      let front = take at now ++ part in
+      let behind = drop n (drop at now) in
+      let count : length part ≡ n = (rw size at kept) ∙ length-take-le n (drop at now) (rw length-drop (omega arith)) in
+      let long : length front ≡ at + n = omega (arith, length-append (take at now) part, length-take-le at now (omega arith)) in
+      (rw (sized n at now part) (take-at front behind (at + n) long), rw (sized n at now part) (drop-at front behind (at + n) long))
+
+  -- The last block: all that is left, and nothing behind it.
+  pub block-last : (now : List A) (at : ℕ) → take (length now - at) (drop at now) ≡ drop at now
+  block-last now at = take-all (length now - at) (drop at now) (le-of-eq (length-drop at now))
+
+  pub block-ends : (now part : List A) (at : ℕ) → take at now ++ (part ++ drop (length now - at) (drop at now)) ≡ take at now ++ part
+  block-ends now part at = rw (drop-of-length-le (drop at now) (le-of-eq (length-drop at now)), append-nil) refl
+
+-- where each element x has its own y beside it: F is done to some xs by as many ys, and `split` says that it can be cut
+module _ {A B : Type 0} (F : List B → List A → List A)
+    (split : (n : ℕ) (ys : List B) (xs : List A) → F (take n ys) (take n xs) ++ F (drop n ys) (drop n xs) ≡ F ys xs) where
+  -- One block more: what is done, then F on what is left, is what it was.
+  pub beside-goes-on : (ys : List B) (now part : List A) (at n : ℕ) → at + n ≤ length now
+      → part ≡ F (take (at + n - at) (drop at ys)) (lent at (at + n) now) → length part ≡ length (lent at (at + n) now)
+      → take (at + n) (given-back at (at + n) now part) ++ F (drop (at + n) ys) (drop (at + n) (given-back at (at + n) now part)) ≡ take at now ++ F (drop at ys) (drop at now)
+  beside-goes-on ys now part at n room made kept =
+      let size : at + n - at ≡ n = omega arith in
+      let behind = drop n (drop at now) in
+      let cut = block-cut now part at n room kept in
+      ap₂ (λ (p q : List A). p ++ F (drop (at + n) ys) q) (cut .0) (cut .1)
+      ∙ append-assoc (take at now) part (F (drop (at + n) ys) behind)
+      ∙ ap (λ (r : List A). take at now ++ r)
+      (ap₂ (λ (p : List A) (zs : List B). p ++ F zs behind) (rw size at made) (sym (drop-drop n at ys)) ∙ split n (drop at ys) (drop at now))
+
+  -- Once all is done, F was done to the whole.
+  pub beside-ends : (ys : List B) (now part : List A) (at : ℕ) → part ≡ F (take (length ys - at) (drop at ys)) (take (length now - at) (drop at now))
+      → take at now ++ (part ++ drop (length now - at) (drop at now)) ≡ take at now ++ F (drop at ys) (drop at now)
+  beside-ends ys now part at made =
+      block-ends now part at ∙ ap (λ (r : List A). take at now ++ r) (made ∙ ap₂ F (block-last ys at) (block-last now at))

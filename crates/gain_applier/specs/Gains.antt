@@ -1,9 +1,10 @@
 -- How the code does the ramp: its gains are the same for every channel, so they are written down once, and each sample is multiplied by its own.
--- Definitions, and the law that this is the ramp. Assumes nothing.
+-- Definitions, the law that this is the ramp, and how it goes in blocks. Assumes nothing.
 use mathlib.Core.Path.{_≡_, refl, ap, _∙_}
-use mathlib.Core.List.{List, [], _∷_}
-use Prim.Native.Nat.{ℕ, zero, suc}
-use lib.ListN.{length}
+use mathlib.Core.List.{List, [], _∷_, _++_}
+use Prim.Native.Nat.{ℕ, zero, suc, _+_}
+use native.Mathlib.Nat.{zero-add, suc-add}
+use lib.ListN.{length, take, drop, take-append-drop}
 use lib.Ieee.{Float, binary32, add, mul}
 use Rattle.gain_applier.specs.Sound.{ramped}
 
@@ -11,6 +12,11 @@ use Rattle.gain_applier.specs.Sound.{ramped}
 unfoldable pub gainsFrom : ℕ → Float → Float → List Float
 gainsFrom zero gain step = []
 gainsFrom (suc n) gain step = gain ∷ gainsFrom n (add binary32 gain step) step
+
+-- the gain after so many steps
+unfoldable pub gainAfter : ℕ → Float → Float → Float
+gainAfter zero gain step = gain
+gainAfter (suc n) gain step = gainAfter n (add binary32 gain step) step
 
 -- each sample by its gain
 unfoldable pub multiplied : List Float → List Float → List Float
@@ -23,3 +29,22 @@ pub by-gains : (gain step : Float) (part : List Float) → multiplied (gainsFrom
 unfolding gainsFrom multiplied ramped
 by-gains gain step [] = refl
 by-gains gain step (x ∷ xs) = ap (λ (r : List Float). mul binary32 x gain ∷ r) (by-gains (add binary32 gain step) step xs)
+
+-- So many gains and then more are as many as both.
+pub gains-split : (n m : ℕ) (gain step : Float) → gainsFrom n gain step ++ gainsFrom m (gainAfter n gain step) step ≡ gainsFrom (n + m) gain step
+unfolding gainsFrom gainAfter
+gains-split zero m gain step = rw zero-add refl
+gains-split (suc n) m gain step = rw suc-add (ap (λ (r : List Float). gain ∷ r) (gains-split n m (add binary32 gain step) step))
+
+without-gains : (xs : List Float) → multiplied [] xs ≡ xs
+unfolding multiplied
+without-gains [] = refl
+without-gains (x ∷ xs) = refl
+
+-- Some samples by their gains, and then the rest by theirs.
+pub multiplied-split : (n : ℕ) (gains xs : List Float) → multiplied (take n gains) (take n xs) ++ multiplied (drop n gains) (drop n xs) ≡ multiplied gains xs
+unfolding multiplied
+multiplied-split zero gains xs = refl
+multiplied-split (suc n) gains [] = refl
+multiplied-split (suc n) [] (x ∷ xs) = ap (λ (r : List Float). x ∷ (take n xs ++ r)) (without-gains (drop n xs)) ∙ ap (λ (r : List Float). x ∷ r) (take-append-drop n xs)
+multiplied-split (suc n) (gain ∷ gains) (x ∷ xs) = ap (λ (r : List Float). mul binary32 x gain ∷ r) (multiplied-split n gains xs)

@@ -6,7 +6,7 @@ ghost use Prim.Native.Nat.{_*_, _≤_};
 ghost use lib.ListN.{length};
 ghost use Rattle.frames.specs.Parts.{eachPart};
 ghost use Rattle.gain_applier.specs.Sound.{closeToOne, scaled, ramped, clipped, finished, gained};
-ghost use Rattle.gain_applier.specs.Gains.{gainsFrom, multiplied};
+ghost use Rattle.gain_applier.specs.Gains.{gainsFrom, gainAfter, multiplied};
 ghost use Rattle.gain_applier.specs.Applier.{remembered, inverseOf, passes, made, Applied, applied, aimed, told};
 use units::replies::DONE;
 
@@ -19,6 +19,9 @@ const MOST_ONE: f32 = 1.0000305;
 const LOWEST: f32 = -32768.0;
 
 const HIGHEST: f32 = 32767.0;
+
+// So many samples are done in one go, without a branch between them: a millisecond at 48 kHz.
+const BLOCK: usize = 48;
 
 // Whether samples are clipped, the gain factor that the last frame ended with, the one to end the next
 // frame with, the samples of a channel (-1 before the first frame) and 1 over them.
@@ -61,8 +64,9 @@ fn scale(part: &mut [f32], gain: f32)
     }
 }
 
-// Fills with gains, each one step after the one before.
-fn fill_gains(gains: &mut [f32], from: f32, step: f32)
+// Fills with gains, each one step after the one before, and answers the next.
+fn fill_some(gains: &mut [f32], from: f32, step: f32) -> f32
+    ensures { λ r. ⌜ r ≡ gainAfter (length (now (gains .entry))) from step ⌝ }
     ensures { λ _. ⌜ now (gains .exit) ≡ gainsFrom (length (now (gains .entry))) from step ⌝ }
 {
     let mut gain = from;
@@ -72,10 +76,25 @@ fn fill_gains(gains: &mut [f32], from: f32, step: f32)
         gain = gain + step;
         i += 1;
     }
+    gain
+}
+
+// Fills with gains, each one step after the one before: block after block, and then what is left.
+fn fill_gains(gains: &mut [f32], from: f32, step: f32)
+    ensures { λ _. ⌜ now (gains .exit) ≡ gainsFrom (length (now (gains .entry))) from step ⌝ }
+{
+    let mut next = from;
+    let mut at = 0;
+    while BLOCK <= gains.len() - at {
+        let to = at + BLOCK;
+        next = fill_some(&mut gains[at..to], next, step);
+        at = to;
+    }
+    next = fill_some(&mut gains[at..], next, step);
 }
 
 // Multiplies each sample of a part by its gain.
-fn multiply(part: &mut [f32], gains: &[f32])
+fn multiply_some(part: &mut [f32], gains: &[f32])
     requires { ⌜ length (now part) ≤ length (now gains) ⌝ }
     ensures { λ _. ⌜ now (part .exit) ≡ multiplied (now (gains .entry)) (now (part .entry)) ⌝ }
 {
@@ -84,6 +103,20 @@ fn multiply(part: &mut [f32], gains: &[f32])
         part[i] = part[i] * gains[i];
         i += 1;
     }
+}
+
+// Multiplies each sample of a part by its gain: block after block, and then what is left.
+fn multiply(part: &mut [f32], gains: &[f32])
+    requires { ⌜ length (now part) ≤ length (now gains) ⌝ }
+    ensures { λ _. ⌜ now (part .exit) ≡ multiplied (now (gains .entry)) (now (part .entry)) ⌝ }
+{
+    let mut at = 0;
+    while BLOCK <= part.len() - at {
+        let to = at + BLOCK;
+        multiply_some(&mut part[at..to], &gains[at..to]);
+        at = to;
+    }
+    multiply_some(&mut part[at..], &gains[at..]);
 }
 
 // Brings each sample of a part between the ends of 16 bits.

@@ -21,6 +21,9 @@ const LOWEST: f32 = -32768.0;
 
 const HIGHEST: f32 = 32767.0;
 
+// So many samples are done in one go, without a branch between them: a millisecond at 48 kHz.
+const BLOCK: usize = 48;
+
 // The level estimator, the gain curve with its counts, and the factor that the last frame ended with.
 pub struct Limiter {
     pub estimator: Estimator,
@@ -50,16 +53,29 @@ fn eighth_power(x: f32) -> f32
     x4 * x4
 }
 
-// Fills a sub-frame with factors on a straight line from start towards end.
-fn fill_straight(part: &mut [f32], start: f32, end: f32)
+// Fills with factors on a straight line, from start in steps.
+fn fill_line(part: &mut [f32], start: f32, step: f32)
     requires { ⌜ length (now part) ≤ 480 ⌝ }
-    ensures { λ _. ⌜ now (part .exit) ≡ straight (length (now (part .entry))) start end ⌝ }
+    ensures { λ _. ⌜ now (part .exit) ≡ line start step 0 (length (now (part .entry))) ⌝ }
 {
-    let step = (end - start) / (part.len() as u16 as f32);
     let mut j = 0;
     while j < part.len() {
         part[j] = start + step * (j as u16 as f32);
         j += 1;
+    }
+}
+
+// Fills a sub-frame with factors on a straight line from start towards end. That of 48 kHz has a way
+// of its own, which has no loop when it runs.
+fn fill_straight(part: &mut [f32], start: f32, end: f32)
+    requires { ⌜ length (now part) ≤ 480 ⌝ }
+    ensures { λ _. ⌜ now (part .exit) ≡ straight (length (now (part .entry))) start end ⌝ }
+{
+    if part.len() == 24 {
+        fill_line(&mut part[..24], start, (end - start) / 24.0);
+    } else {
+        let step = (end - start) / (part.len() as u16 as f32);
+        fill_line(part, start, step);
     }
 }
 
@@ -79,7 +95,7 @@ fn fill_curved(part: &mut [f32], start: f32, end: f32)
 }
 
 // Multiplies each sample of a part by its factor, and brings it between the ends of 16 bits.
-fn limit(part: &mut [f32], by: &[f32])
+fn limit_some(part: &mut [f32], by: &[f32])
     requires { ⌜ length (now part) ≤ length (now by) ⌝ }
     ensures { λ _. ⌜ now (part .exit) ≡ limited (now (by .entry)) (now (part .entry)) ⌝ }
 {
@@ -88,6 +104,20 @@ fn limit(part: &mut [f32], by: &[f32])
         part[i] = floats::clamp(part[i] * by[i], LOWEST, HIGHEST);
         i += 1;
     }
+}
+
+// The same block after block, and then what is left.
+fn limit(part: &mut [f32], by: &[f32])
+    requires { ⌜ length (now part) ≤ length (now by) ⌝ }
+    ensures { λ _. ⌜ now (part .exit) ≡ limited (now (by .entry)) (now (part .entry)) ⌝ }
+{
+    let mut at = 0;
+    while BLOCK <= part.len() - at {
+        let to = at + BLOCK;
+        limit_some(&mut part[at..to], &by[at..to]);
+        at = to;
+    }
+    limit_some(&mut part[at..], &by[at..]);
 }
 
 // Lends each channel's part to `limit`.

@@ -1,70 +1,116 @@
 -- `gain_applier::multiply` meets its contract. The invariant: what is done, then the definition on what is left, by the gains that are left. Assumes nothing.
-use mathlib.Core.Path.{_≡_, refl, sym, ap, _∙_}
+use mathlib.Core.Path.{_≡_, refl, sym, ap, ap₂, _∙_}
 use mathlib.Core.List.{List, _++_}
-use Prim.Native.Nat.{_+_, _-_, _≤_, _<_}
-use native.Mathlib.Omega.{arith}
+use Prim.Native.Nat.{ℕ, _+_, _-_, _≤_, _<_}
+use lib.Ieee.{Float}
+use lib.ListN.{length, take, drop, length-take, length-drop}
+use Rattle.frames.specs.Walk.{block-length, block-last, beside-goes-on, beside-ends}
+use Rattle.gain_applier.specs.Gains.{multiplied, multiplied-split}
 use borrow.Author.Needs.{needs}
-use lib.ListN.{length, take, drop, length-set}
-use lib.Ieee.{Float, nan}
-use Rattle.lists.specs.Loops.{in-place, in-place-done}
-use Rattle.lists.specs.Stores.{next}
-use Rattle.gain_applier.specs.Gains.{multiplied}
+use native.Mathlib.Omega.{arith}
 use Rattle.gain_applier.proofs.multiply.Statement.{statement}
 use Rattle.gain_applier.proofs.multiply.Tie as tie
 
 abbrev Inv-loop : tie.InvT-loop
-Inv-loop part₀ gains i₀ part i = (length part ≡ length part₀) × (i ≤ length part) × (take i part ++ multiplied (drop i gains) (drop i part) ≡ multiplied gains part₀)
+Inv-loop part₀ gains at₀ part at = (length part ≡ length part₀) × (at ≤ length part) × (take at part ++ multiplied (drop at gains) (drop at part) ≡ multiplied gains part₀)
 
 abbrev μ-loop : tie.MeasureT-loop
-μ-loop part₀ gains i₀ part i = length part - i
+μ-loop part₀ gains at₀ part at = length part - at
 
 loop-holds : tie.Need-loop-holds Inv-loop μ-loop
 loop-holds c = (refl, omega arith, refl)
 
-mul-part : tie.Need-mul-part Inv-loop μ-loop
-mul-part c = search needs
+sub-loop : tie.Need-sub-loop Inv-loop μ-loop
+sub-loop c = search needs
 
-slice-read-part : tie.Need-slice-read-part Inv-loop μ-loop
-slice-read-part c = search needs
+add-to : tie.Need-add-to Inv-loop μ-loop
+add-to c = search needs
 
-mul-part-2 : tie.Need-mul-part-2 Inv-loop μ-loop
-mul-part-2 c = search needs
+mul-multiply-some : tie.Need-mul-multiply-some Inv-loop μ-loop
+mul-multiply-some c = search needs
 
-shared-slice-read-part : tie.Need-shared-slice-read-part Inv-loop μ-loop
-shared-slice-read-part c = omega arith
+sub-multiply-some : tie.Need-sub-multiply-some Inv-loop μ-loop
+sub-multiply-some c = search needs
 
-mul-part-3 : tie.Need-mul-part-3 Inv-loop μ-loop
-mul-part-3 c = search needs
+part-multiply-some-start : tie.Need-part-multiply-some-start Inv-loop μ-loop
+part-multiply-some-start c = search needs
 
-slice-write-part : tie.Need-slice-write-part Inv-loop μ-loop
-slice-write-part c = search needs
+part-multiply-some-end : tie.Need-part-multiply-some-end Inv-loop μ-loop
+part-multiply-some-end c = search needs
 
-add-i : tie.Need-add-i Inv-loop μ-loop
-add-i c = search needs
+mul-multiply-some-2 : tie.Need-mul-multiply-some-2 Inv-loop μ-loop
+mul-multiply-some-2 c = search needs
+
+sub-multiply-some-2 : tie.Need-sub-multiply-some-2 Inv-loop μ-loop
+sub-multiply-some-2 c = search needs
+
+part-multiply-some-start-2 : tie.Need-part-multiply-some-start-2 Inv-loop μ-loop
+part-multiply-some-start-2 c = search needs
+
+part-multiply-some-end-2 : tie.Need-part-multiply-some-end-2 Inv-loop μ-loop
+part-multiply-some-end-2 c = omega arith
+
+multiply-some-requires : tie.Need-multiply-some-requires Inv-loop μ-loop
+multiply-some-requires c κs = search needs
 
 loop-less : tie.Need-loop-less Inv-loop μ-loop
-loop-less c = simp length-set (omega arith)
+loop-less c =
+    let loop = c .before .before .before .before .before .before .loop in
+    let same = block-length (loop .part) (c .before .before .multiply-some .last .0) (loop .at) (loop .at + 48 - loop .at) (omega arith) (c .before .before .multiply-some .kept .0) in
+    omega (arith, same)
 
 loop-again : tie.Need-loop-again Inv-loop μ-loop
-unfolding multiplied
 loop-again c =
-    let loop = c .before .before .before .loop in
-    let gains = c .before .before .before .before .args .gains .now in
-    let inside : loop .i < length gains = omega arith in (
-      simp length-set (loop .inv .0),
-      simp length-set (omega arith),
-      in-place (multiplied (drop (loop .i) gains)) (multiplied (drop (loop .i + 1) gains)) (loop .part) (loop .i) nan _ (omega arith) (rw (next gains (loop .i) nan inside)) ∙ loop .inv .2,
+    let loop = c .before .before .before .before .before .before .loop in
+    let made = c .before .before .multiply-some in
+    let same = block-length (loop .part) (made .last .0) (loop .at) (loop .at + 48 - loop .at) (omega arith) (made .kept .0) in (
+      same ∙ loop .inv .0,
+      omega (arith, same),
+      beside-goes-on multiplied multiplied-split (c .before .before .before .before .before .before .before .before .before .args .gains .now) (loop .part) (made .last .0) (loop .at) 48 (omega arith) (made .ensures) (made .kept .0) ∙ loop .inv .2,
     )
 
+mul-multiply-some-3 : tie.Need-mul-multiply-some-3 Inv-loop μ-loop
+mul-multiply-some-3 c = search needs
+
+sub-multiply-some-3 : tie.Need-sub-multiply-some-3 Inv-loop μ-loop
+sub-multiply-some-3 c = search needs
+
+part-multiply-some-start-3 : tie.Need-part-multiply-some-start-3 Inv-loop μ-loop
+part-multiply-some-start-3 c = search needs
+
+part-multiply-some-end-3 : tie.Need-part-multiply-some-end-3 Inv-loop μ-loop
+part-multiply-some-end-3 c = search needs
+
+mul-multiply-some-4 : tie.Need-mul-multiply-some-4 Inv-loop μ-loop
+mul-multiply-some-4 c = search needs
+
+sub-multiply-some-4 : tie.Need-sub-multiply-some-4 Inv-loop μ-loop
+sub-multiply-some-4 c = search needs
+
+part-multiply-some-start-4 : tie.Need-part-multiply-some-start-4 Inv-loop μ-loop
+part-multiply-some-start-4 c = search needs
+
+part-multiply-some-end-4 : tie.Need-part-multiply-some-end-4 Inv-loop μ-loop
+part-multiply-some-end-4 c = search needs
+
+multiply-some-requires-2 : tie.Need-multiply-some-requires-2 Inv-loop μ-loop
+multiply-some-requires-2 c κs =
+    let part = c .before .before .before .loop .part in
+    let gains = c .before .before .before .before .before .before .args .gains .now in
+    let at = c .before .before .before .loop .at in
+    rw (block-last part at, block-last gains at, length-drop, length-drop) (omega arith)
+
 same-length : tie.Need-same-length Inv-loop μ-loop
-same-length c = c .before .loop .inv .0
+same-length c =
+    let loop = c .before .before .before .before .before .before .loop in
+    let made = c .before .before .multiply-some2 in
+    block-length (loop .part) (made .last .0) (loop .at) (length (loop .part) - loop .at) (omega arith) (made .kept .0) ∙ loop .inv .0
 
 returns : tie.Need-returns Inv-loop μ-loop
-unfolding multiplied
 returns c =
-    let loop = c .before .loop in
-    let gains = c .before .before .args .gains .now in
-    sym (in-place-done (multiplied (drop (loop .i) gains)) (loop .part) (loop .i) (omega arith) refl) ∙ loop .inv .2
+    let loop = c .before .before .before .before .before .before .loop in
+    let made = c .before .before .multiply-some2 in
+    beside-ends multiplied multiplied-split (c .before .before .before .before .before .before .before .before .before .args .gains .now) (loop .part) (made .last .0) (loop .at) (made .ensures) ∙ loop .inv .2
 
 pub multiply-spec : {M : Type 1} → statement M
 multiply-spec =
@@ -73,14 +119,27 @@ multiply-spec =
     Inv-loop
     μ-loop
     loop-holds
-    mul-part
-    slice-read-part
-    mul-part-2
-    shared-slice-read-part
-    mul-part-3
-    slice-write-part
-    add-i
+    sub-loop
+    add-to
+    mul-multiply-some
+    sub-multiply-some
+    part-multiply-some-start
+    part-multiply-some-end
+    mul-multiply-some-2
+    sub-multiply-some-2
+    part-multiply-some-start-2
+    part-multiply-some-end-2
+    multiply-some-requires
     loop-less
     loop-again
+    mul-multiply-some-3
+    sub-multiply-some-3
+    part-multiply-some-start-3
+    part-multiply-some-end-3
+    mul-multiply-some-4
+    sub-multiply-some-4
+    part-multiply-some-start-4
+    part-multiply-some-end-4
+    multiply-some-requires-2
     same-length
     returns)

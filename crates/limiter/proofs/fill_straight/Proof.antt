@@ -1,89 +1,74 @@
--- `limiter::fill_straight` meets its contract. The invariant: what is done, then the line on what is left. Assumes nothing.
-use mathlib.Core.Path.{_≡_, refl, sym, ap, _∙_}
-use mathlib.Core.List.{List, _++_}
-use Prim.Native.Nat.{_+_, _-_, _≤_, _<_}
-use native.Mathlib.Omega.{arith}
-use borrow.Author.Needs.{needs}
-use lib.ListN.{length, take, drop, length-set}
-use lib.Ieee.{Float, nan}
-use Rattle.lists.specs.Loops.{in-place, in-place-done}
-use lib.Ieee.{binary32, sub, div}
+-- `limiter::fill_straight` meets its contract: the line, whose step is the same where the samples are 24. Assumes nothing.
+use mathlib.Core.Path.{_≡_, refl, sym, ap, ap₂, _∙_}
+use mathlib.Core.List.{List, _++_, append-nil}
+use Prim.Native.Nat.{ℕ}
+use native.Mathlib.Nat.{le-of-eq}
+use lib.Ieee.{Float, binary32, ofBits, ofInt, sub, div}
+use lib.ListN.{length, take, drop, drop-of-length-le}
+use lib.Seq.{take-all, length-take-le}
 use Rattle.limiter.specs.Factors.{whole, line, straight}
-use Rattle.limiter.specs.Factors.{line, straight}
+use borrow.Author.Needs.{needs}
+use native.Mathlib.Omega.{arith}
 use Rattle.limiter.proofs.fill_straight.Statement.{statement}
 use Rattle.limiter.proofs.fill_straight.Tie as tie
 
-abbrev Inv-loop : tie.InvT-loop
-Inv-loop part₀ start end step j₀ part j = (length part ≡ length part₀) × (j ≤ length part) × (take j part ++ line start step j (length (drop j part)) ≡ line start step 0 (length part₀))
+twenty-four : whole 24 ≡ ofBits binary32 0x41c0_0000
+unfolding ofInt ofBits
+twenty-four = refl
 
-abbrev μ-loop : tie.MeasureT-loop
-μ-loop part₀ start end step j₀ part j = length part - j
+as-many-as-24 : (part ys : List Float) (start end : Float) → length part ≡ 24
+    → ys ≡ line start (div binary32 (sub binary32 end start) (ofBits binary32 0x41c0_0000)) 0 (length (take 24 part)) → ys ++ drop 24 part ≡ straight (length part) start end
+unfolding straight
+as-many-as-24 part ys start end h e =
+    rw (drop-of-length-le part (le-of-eq h), append-nil)
+    (e
+    ∙ ap₂ (λ (w : Float) (n : ℕ). line start (div binary32 (sub binary32 end start) w) 0 n) (sym twenty-four ∙ ap (λ (n : ℕ). whole n) (sym h))
+    (ap length (take-all 24 part (le-of-eq h))))
 
-cast-step : tie.Need-cast-step Inv-loop μ-loop
-cast-step c = record { fits = omega arith }
+slice-relend-prefix-fill-line : tie.Need-slice-relend-prefix-fill-line
+slice-relend-prefix-fill-line c = search needs
 
-int-to-float-step : tie.Need-int-to-float-step Inv-loop μ-loop
+slice-aggregate-fill-line : tie.Need-slice-aggregate-fill-line
+slice-aggregate-fill-line c = sym (length-take-le 24 (c .before .before .before .args .part .now) (omega arith))
+
+fill-line-requires : tie.Need-fill-line-requires
+fill-line-requires c κs = rw (length-take-le 24 (c .before .before .before .args .part .now) (omega arith)) (omega arith)
+
+cast-step : tie.Need-cast-step
+cast-step c = search needs
+
+int-to-float-step : tie.Need-int-to-float-step
 int-to-float-step c = search needs
 
-loop-holds : tie.Need-loop-holds Inv-loop μ-loop
-loop-holds c = (refl, omega arith, refl)
+fill-line-requires-2 : tie.Need-fill-line-requires-2
+fill-line-requires-2 c κs = search needs
 
-cast-part : tie.Need-cast-part Inv-loop μ-loop
-cast-part c = record { fits = omega arith }
+same-length : tie.Need-same-length
+same-length c = search needs
 
-int-to-float-part : tie.Need-int-to-float-part Inv-loop μ-loop
-int-to-float-part c = search needs
-
-mul-part : tie.Need-mul-part Inv-loop μ-loop
-mul-part c = search needs
-
-slice-write-part : tie.Need-slice-write-part Inv-loop μ-loop
-slice-write-part c = search needs
-
-add-j : tie.Need-add-j Inv-loop μ-loop
-add-j c = search needs
-
-loop-less : tie.Need-loop-less Inv-loop μ-loop
-loop-less c = simp length-set (omega arith)
-
-loop-again : tie.Need-loop-again Inv-loop μ-loop
-unfolding line
-loop-again c =
-    let loop = c .before .before .loop in
-    let args = c .before .before .before .before .args in
-    let start = args .start in
-    let step = div binary32 (sub binary32 (args .end) start) (whole (length (args .part .now))) in (
-      simp length-set (loop .inv .0),
-      simp length-set (omega arith),
-      in-place (λ (xs : List Float). line start step (loop .j) (length xs)) (λ (xs : List Float). line start step (loop .j + 1) (length xs)) (loop .part) (loop .j) nan _ (omega arith) refl ∙ loop .inv .2,
-    )
-
-same-length : tie.Need-same-length Inv-loop μ-loop
-same-length c = c .before .loop .inv .0
-
-returns : tie.Need-returns Inv-loop μ-loop
-unfolding line straight
+returns : tie.Need-returns
 returns c =
-    let args = c .before .before .before .args in
-    let loop = c .before .loop in
-    let step = div binary32 (sub binary32 (args .end) (args .start)) (whole (length (args .part .now))) in
-    sym (in-place-done (λ (xs : List Float). line (args .start) step (loop .j) (length xs)) (loop .part) (loop .j) (omega arith) refl) ∙ loop .inv .2
+    let args = c .before .before .before .before .before .before .args in
+    as-many-as-24 (args .part .now) (c .before .before .fill-line .last .0) (args .start) (args .end) (omega arith) (c .before .before .fill-line .ensures)
+
+same-length-2 : tie.Need-same-length-2
+same-length-2 c = search needs
+
+returns-2 : tie.Need-returns-2
+unfolding straight
+returns-2 c = c .before .before .fill-line2 .ensures
 
 pub fill-straight-spec : {M : Type 1} → statement M
 fill-straight-spec =
     tie.close
     (tie.spec
-    Inv-loop
-    μ-loop
+    slice-relend-prefix-fill-line
+    slice-aggregate-fill-line
+    fill-line-requires
     cast-step
     int-to-float-step
-    loop-holds
-    cast-part
-    int-to-float-part
-    mul-part
-    slice-write-part
-    add-j
-    loop-less
-    loop-again
+    fill-line-requires-2
     same-length
-    returns)
+    returns
+    same-length-2
+    returns-2)

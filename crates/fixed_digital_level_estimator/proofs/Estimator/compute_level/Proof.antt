@@ -20,7 +20,8 @@ use Rattle.fixed_digital_level_estimator.specs.Laws.Lengths.{envelope-le
 use Rattle.fixed_digital_level_estimator.specs.Laws.Accepted.{accepted}
 use Rattle.fixed_digital_level_estimator.specs.Laws.States.{computed-levels}
 use Rattle.lists.specs.Each.{Each}
-use Rattle.fixed_digital_level_estimator.specs.Range.{Level}
+use Rattle.fixed_digital_level_estimator.specs.Range.{Level, Sound, Held}
+use Rattle.fixed_digital_level_estimator.specs.Laws.Range.{samples-level}
 use Rattle.floats.specs.Laws.Kinds.{passed}
 use Rattle.fixed_digital_level_estimator.proofs.Estimator.compute_level.Statement.{statement}
 use Rattle.fixed_digital_level_estimator.proofs.Estimator.compute_level.Tie as tie
@@ -34,11 +35,11 @@ module _ (e : Estimator) (frame : List Float) (channels samples : ℕ) (ok : Boo
   is : reply ≡ refused e frame channels samples
   is = rw (← o) r
 
-  -- an accepted frame has the shape that its peaks ask for
-  shaped : reply ≡ done → (length frame ≡ channels * samples) × (samples ≡ 20 * e .part)
-  shaped d =
+  -- an accepted frame has the shape and the samples that its peaks ask for
+  shaped : Held frame → reply ≡ done → (length frame ≡ channels * samples) × (samples ≡ 20 * e .part) × Each Sound frame
+  shaped h d =
       let a = accepted e frame channels samples (sym is ∙ d) in
-      (a .size, a .parts)
+      (a .size, a .parts, samples-level frame h (a .sound))
 
   -- its answer
   accepts : (peaks high envelope : List Float) → reply ≡ done → peaks ≡ peaksOver channels samples (e .part) silence frame → high ≡ raised peaks
@@ -70,7 +71,7 @@ refusal-requires : tie.Need-refusal-requires
 refusal-requires c κs = search needs
 
 frame-peaks-requires : tie.Need-frame-peaks-requires
-frame-peaks-requires c κs = shaped _ _ _ _ _ _ (c .before .before .passes .ensures) (c .before .refusal .ensures) (c .if1 .taken)
+frame-peaks-requires c κs = shaped _ _ _ _ _ _ (c .before .before .passes .ensures) (c .before .refusal .ensures) (c .before .before .before .shared-slice-known .given) (c .if1 .taken)
 
 raise-requires : tie.Need-raise-requires
 raise-requires c κs = search needs
