@@ -1,13 +1,28 @@
-// Each part over as many frames as asked. Every function here has the same loop: a frame is filled,
-// the part does its work on it, and the digest takes the frame. What it answers is the digest at the
-// end and whether any frame was refused. A part that is added has a function here, a line in `run`
-// and its twin in oracle/speed.
+// Each part over as many frames as asked. Every function here has the same loop: the digest takes what became
+// of the frame before, the frame and its figures are made anew, and the part does its work on them. What it
+// answers is the digest before the last frame, and whether any frame was refused. A part that is added has a
+// function here, a line in `work` and its twin in oracle/speed.
 
 use crate::sound;
+use adaptive_digital_gain_controller::Controller;
+use adaptive_digital_gain_controller::Info;
+use chain::Chain;
 use fixed_digital_level_estimator::Estimator;
 use gain_applier::Applier;
+use interpolated_gain_curve::Curve;
 use limiter::Limiter;
+use saturation_protector::Protector;
+use units::figures::Figures;
+use units::kinds::Db;
+use units::kinds::Dbfs;
+use units::kinds::LinearS16;
 use units::replies::DONE;
+use units::settings::Settings;
+
+// How many adjacent speech frames a run needs to count, and the headroom to start with: the Rust's own.
+const THRESHOLD: u32 = 12;
+
+const INITIAL: f32 = 20.0;
 
 // What is asked: the part, the sound, the channels, the samples of each, and the frames. All of them
 // are read when the program runs, so that no part is compiled for one size.
@@ -26,33 +41,130 @@ pub struct Outcome {
 }
 
 // The parts' numbers.
-const ESTIMATOR: u32 = 1;
+const SPEECH_LEVEL: u32 = 1;
 
-const APPLIER_ONE: u32 = 2;
+const HEADROOM: u32 = 2;
 
-const APPLIER_EQUAL: u32 = 3;
+const CONTROLLER: u32 = 3;
 
-const APPLIER_RAMP: u32 = 4;
+const ENVELOPE: u32 = 4;
 
-const APPLIER_CLIP: u32 = 5;
+const APPLIER_ONE: u32 = 5;
 
-const LIMITER: u32 = 6;
+const APPLIER_EQUAL: u32 = 6;
 
-// Only the filling and the digest: what each of the others has besides its own work.
+const APPLIER_RAMP: u32 = 7;
+
+const APPLIER_CLIP: u32 = 8;
+
+const CURVE: u32 = 9;
+
+const LIMITER: u32 = 10;
+
+const CHAIN: u32 = 11;
+
+// Only the frame, the figures and the digest: what each of the others has besides its own work.
 fn nothing(frame: &mut [f32], ask: Ask) -> Outcome {
-    let mut digest: u32 = 0;
-    let mut seed: u64 = 1;
+    let mut tape = sound::start();
     let frames = ask.frames;
     let mut k: u32 = 0;
     while k < frames {
         let number = k;
         k += 1;
-        seed = sound::fill(frame, seed, sound::loudness(ask.sound, number));
-        digest = sound::digest(digest, frame);
+        tape = sound::turn(frame, tape, ask.sound, number);
     }
     Outcome {
-        digest,
+        digest: tape.digest,
         refused: false,
+    }
+}
+
+// The level of the speech. The digest ends with it.
+fn hear(frame: &mut [f32], ask: Ask) -> Outcome {
+    let new = speech_level_estimator::Estimator::new(Settings::usual(), THRESHOLD);
+    let mut estimator = new.estimator;
+    let mut tape = sound::start();
+    let mut refused = false;
+    let frames = ask.frames;
+    let mut k: u32 = 0;
+    while k < frames {
+        let number = k;
+        k += 1;
+        tape = sound::turn(frame, tape, ask.sound, number);
+        let figures = tape.figures;
+        let next = estimator.update(Dbfs(figures.rms.0), figures.probability);
+        let after = next.estimator;
+        estimator = after;
+        refused = refused | (next.reply != DONE);
+    }
+    Outcome {
+        digest: sound::mix(tape.digest, estimator.level),
+        refused,
+    }
+}
+
+// The headroom by the recent peaks, with their ring. The digest ends with it.
+fn protect(frame: &mut [f32], ask: Ask) -> Outcome {
+    let new = Protector::new(Db(INITIAL), THRESHOLD);
+    let mut protector = new.protector;
+    let mut tape = sound::start();
+    let mut refused = false;
+    let frames = ask.frames;
+    let mut k: u32 = 0;
+    while k < frames {
+        let number = k;
+        k += 1;
+        tape = sound::turn(frame, tape, ask.sound, number);
+        let figures = tape.figures;
+        let next = protector.analyze(
+            figures.probability,
+            Dbfs(figures.peak.0),
+            Dbfs(figures.rms.0),
+        );
+        let after = next.protector;
+        protector = after;
+        refused = refused | (next.reply != DONE);
+    }
+    Outcome {
+        digest: sound::mix(tape.digest, protector.headroom),
+        refused,
+    }
+}
+
+// What the controller is told of a frame: its figures, with a headroom from 12 to 20, and a level that is trusted in
+// every second eight frames.
+fn info(figures: Figures, number: u32) -> Info {
+    Info {
+        probability: figures.probability,
+        level: Dbfs(figures.rms.0),
+        reliable: number % 16 < 8,
+        noise: Dbfs(figures.noise.0),
+        headroom: Db(figures.probability * 8.0 + 12.0),
+        envelope: Dbfs(figures.envelope.0),
+    }
+}
+
+// The gain controller.
+fn control(frame: &mut [f32], ask: Ask) -> Outcome {
+    let new = Controller::new(Settings::usual(), THRESHOLD);
+    let mut controller = new.controller;
+    let mut tape = sound::start();
+    let mut refused = false;
+    let frames = ask.frames;
+    let mut k: u32 = 0;
+    while k < frames {
+        let number = k;
+        k += 1;
+        tape = sound::turn(frame, tape, ask.sound, number);
+        let figures = tape.figures;
+        let next = controller.process(info(figures, number), frame, ask.channels, ask.samples);
+        let after = next.controller;
+        controller = after;
+        refused = refused | (next.reply != DONE);
+    }
+    Outcome {
+        digest: tape.digest,
+        refused,
     }
 }
 
@@ -61,25 +173,23 @@ fn estimate(frame: &mut [f32], ask: Ask) -> Outcome {
     let new = Estimator::new(ask.samples);
     let mut estimator = new.estimator;
     let mut levels = [0.0; 20];
-    let mut digest: u32 = 0;
+    let mut tape = sound::start();
     let mut refused = false;
-    let mut seed: u64 = 1;
     let frames = ask.frames;
     let mut k: u32 = 0;
     while k < frames {
         let number = k;
         k += 1;
-        seed = sound::fill(frame, seed, sound::loudness(ask.sound, number));
+        tape = sound::turn(frame, tape, ask.sound, number);
         let found = estimator.compute_level(frame, ask.channels, ask.samples);
         let after = found.estimator;
         let envelope = found.envelope;
         estimator = after;
         levels = envelope;
         refused = refused | (found.reply != DONE);
-        digest = sound::digest(digest, frame);
     }
     Outcome {
-        digest: sound::digest_levels(digest, levels),
+        digest: sound::digest_levels(tape.digest, levels),
         refused,
     }
 }
@@ -88,23 +198,21 @@ fn estimate(frame: &mut [f32], ask: Ask) -> Outcome {
 fn apply(frame: &mut [f32], ask: Ask, factor: f32) -> Outcome {
     let new = Applier::new(false, factor);
     let mut applier = new.applier;
-    let mut digest: u32 = 0;
+    let mut tape = sound::start();
     let mut refused = false;
-    let mut seed: u64 = 1;
     let frames = ask.frames;
     let mut k: u32 = 0;
     while k < frames {
         let number = k;
         k += 1;
-        seed = sound::fill(frame, seed, sound::loudness(ask.sound, number));
+        tape = sound::turn(frame, tape, ask.sound, number);
         let next = applier.apply_gain(frame, ask.channels, ask.samples);
         let after = next.applier;
         applier = after;
         refused = refused | (next.reply != DONE);
-        digest = sound::digest(digest, frame);
     }
     Outcome {
-        digest: sound::mix(digest, applier.current),
+        digest: sound::mix(tape.digest, applier.current),
         refused,
     }
 }
@@ -113,15 +221,14 @@ fn apply(frame: &mut [f32], ask: Ask, factor: f32) -> Outcome {
 fn ramp(frame: &mut [f32], ask: Ask, clip: bool, factor: f32) -> Outcome {
     let new = Applier::new(clip, factor);
     let mut applier = new.applier;
-    let mut digest: u32 = 0;
+    let mut tape = sound::start();
     let mut refused = false;
-    let mut seed: u64 = 1;
     let frames = ask.frames;
     let mut k: u32 = 0;
     while k < frames {
         let number = k;
         k += 1;
-        seed = sound::fill(frame, seed, sound::loudness(ask.sound, number));
+        tape = sound::turn(frame, tape, ask.sound, number);
         let aim = floats::pick_f32(number % 2 == 0, factor + factor, factor);
         let set = applier.set_gain_factor(aim);
         let aimed = set.applier;
@@ -129,10 +236,41 @@ fn ramp(frame: &mut [f32], ask: Ask, clip: bool, factor: f32) -> Outcome {
         let after = next.applier;
         applier = after;
         refused = refused | (set.reply != DONE) | (next.reply != DONE);
-        digest = sound::digest(digest, frame);
     }
     Outcome {
-        digest: sound::mix(digest, applier.current),
+        digest: sound::mix(tape.digest, applier.current),
+        refused,
+    }
+}
+
+// A digest with a curve's counts by region.
+fn mix_counts(before: u32, curve: Curve) -> u32 {
+    let a = sound::mix(before, (curve.identity % 65536) as u16 as f32);
+    let b = sound::mix(a, (curve.knee % 65536) as u16 as f32);
+    let c = sound::mix(b, (curve.limiter % 65536) as u16 as f32);
+    sound::mix(c, (curve.saturation % 65536) as u16 as f32)
+}
+
+// The curve, one look-up a frame. The digest ends with the sum of the gains and the counts by region.
+fn look_up(frame: &mut [f32], ask: Ask) -> Outcome {
+    let mut curve = Curve::new();
+    let mut gains = 0.0;
+    let mut tape = sound::start();
+    let mut refused = false;
+    let frames = ask.frames;
+    let mut k: u32 = 0;
+    while k < frames {
+        let number = k;
+        k += 1;
+        tape = sound::turn(frame, tape, ask.sound, number);
+        let next = curve.look_up_gain_to_apply(LinearS16(tape.level));
+        let after = next.curve;
+        curve = after;
+        gains = gains + next.gain;
+        refused = refused | (next.reply != DONE);
+    }
+    Outcome {
+        digest: mix_counts(sound::mix(tape.digest, gains), curve),
         refused,
     }
 }
@@ -141,44 +279,99 @@ fn ramp(frame: &mut [f32], ask: Ask, clip: bool, factor: f32) -> Outcome {
 fn limit(frame: &mut [f32], ask: Ask) -> Outcome {
     let new = Limiter::new(ask.samples);
     let mut limiter = new.limiter;
-    let mut digest: u32 = 0;
+    let mut tape = sound::start();
     let mut refused = false;
-    let mut seed: u64 = 1;
     let frames = ask.frames;
     let mut k: u32 = 0;
     while k < frames {
         let number = k;
         k += 1;
-        seed = sound::fill(frame, seed, sound::loudness(ask.sound, number));
+        tape = sound::turn(frame, tape, ask.sound, number);
         let next = limiter.process(frame, ask.channels, ask.samples);
         let after = next.limiter;
         limiter = after;
         refused = refused | (next.reply != DONE);
-        digest = sound::digest(digest, frame);
     }
     let heard = limiter.last_audio_level();
     Outcome {
-        digest: sound::mix(digest, heard.level.0),
+        digest: sound::mix(tape.digest, heard.level.0),
+        refused,
+    }
+}
+
+// A new chain for channels of so many samples.
+fn leveller_for(samples: usize) -> Chain {
+    let new = Chain::new(Settings::usual(), THRESHOLD, samples);
+    let chain = new.chain;
+    chain
+}
+
+// A digest with the level and the headroom that a chain publishes.
+fn mix_published(before: u32, leveller: Chain) -> u32 {
+    let heard = leveller.estimator;
+    let safe = leveller.protector;
+    sound::mix(sound::mix(before, heard.level), safe.headroom)
+}
+
+// The chain. The digest ends with its level and its headroom.
+fn level(frame: &mut [f32], ask: Ask) -> Outcome {
+    let mut leveller = leveller_for(ask.samples);
+    let mut tape = sound::start();
+    let mut refused = false;
+    let frames = ask.frames;
+    let mut k: u32 = 0;
+    while k < frames {
+        let number = k;
+        k += 1;
+        tape = sound::turn(frame, tape, ask.sound, number);
+        let figures = tape.figures;
+        let next = leveller.step(figures, frame, ask.channels, ask.samples);
+        let after = next.chain;
+        leveller = after;
+        refused = refused | (next.reply != DONE);
+    }
+    Outcome {
+        digest: mix_published(tape.digest, leveller),
         refused,
     }
 }
 
 // The part that is asked for, over a frame of its size. Whatever is no part does nothing.
-pub(crate) fn run(frame: &mut [f32], ask: Ask) -> Outcome {
+fn work(frame: &mut [f32], ask: Ask) -> Outcome {
     let part = ask.part;
-    if part == ESTIMATOR {
+    if part == SPEECH_LEVEL {
+        hear(frame, ask)
+    } else if part == HEADROOM {
+        protect(frame, ask)
+    } else if part == CONTROLLER {
+        control(frame, ask)
+    } else if part == ENVELOPE {
         estimate(frame, ask)
-    } else if part == APPLIER_ONE {
-        apply(frame, ask, 1.0)
-    } else if part == APPLIER_EQUAL {
-        apply(frame, ask, 0.75)
-    } else if part == APPLIER_RAMP {
-        ramp(frame, ask, false, 0.5)
-    } else if part == APPLIER_CLIP {
-        ramp(frame, ask, true, 1.5)
+    } else if part == CURVE {
+        look_up(frame, ask)
     } else if part == LIMITER {
         limit(frame, ask)
+    } else if part == CHAIN {
+        level(frame, ask)
+    } else if (part == APPLIER_ONE) | (part == APPLIER_EQUAL) {
+        apply(frame, ask, floats::pick_f32(part == APPLIER_ONE, 1.0, 0.75))
+    } else if (part == APPLIER_RAMP) | (part == APPLIER_CLIP) {
+        ramp(
+            frame,
+            ask,
+            part == APPLIER_CLIP,
+            floats::pick_f32(part == APPLIER_CLIP, 1.5, 0.5),
+        )
     } else {
         nothing(frame, ask)
+    }
+}
+
+// What the part that is asked for makes, the last frame included.
+pub(crate) fn run(frame: &mut [f32], ask: Ask) -> Outcome {
+    let made = work(frame, ask);
+    Outcome {
+        digest: sound::digest(made.digest, frame),
+        refused: made.refused,
     }
 }

@@ -7,13 +7,16 @@ use Rattle.speed.proofs.parts.estimate.Statement.{statement}
 use Rattle.speed.proofs.parts.estimate.Tie as tie
 
 abbrev Inv-loop : tie.InvT-loop
-Inv-loop frame₀ ask estimator₀ levels₀ digest₀ refused₀ seed₀ frames k₀ frame estimator levels digest refused seed k = (length frame ≡ length frame₀) × (k ≤ frames)
+Inv-loop frame₀ ask estimator₀ levels₀ tape₀ refused₀ frames k₀ frame estimator levels tape refused k = (length frame ≡ length frame₀) × (k ≤ frames)
 
 abbrev μ-loop : tie.MeasureT-loop
-μ-loop frame₀ ask estimator₀ levels₀ digest₀ refused₀ seed₀ frames k₀ frame estimator levels digest refused seed k = frames - k
+μ-loop frame₀ ask estimator₀ levels₀ tape₀ refused₀ frames k₀ frame estimator levels tape refused k = frames - k
 
 new-requires : tie.Need-new-requires Inv-loop μ-loop
 new-requires c κs = search needs
+
+start-requires : tie.Need-start-requires Inv-loop μ-loop
+start-requires c κs = search needs
 
 loop-holds : tie.Need-loop-holds Inv-loop μ-loop
 loop-holds c = search needs
@@ -21,17 +24,11 @@ loop-holds c = search needs
 add-k : tie.Need-add-k Inv-loop μ-loop
 add-k c = search needs
 
-loudness-requires : tie.Need-loudness-requires Inv-loop μ-loop
-loudness-requires c κs = search needs
-
-fill-requires : tie.Need-fill-requires Inv-loop μ-loop
-fill-requires c κs = search needs
+turn-requires : tie.Need-turn-requires Inv-loop μ-loop
+turn-requires c κs = search needs
 
 compute-level-requires : tie.Need-compute-level-requires Inv-loop μ-loop
 compute-level-requires c κs = search needs
-
-digest-requires : tie.Need-digest-requires Inv-loop μ-loop
-digest-requires c κs = search needs
 
 loop-less : tie.Need-loop-less Inv-loop μ-loop
 loop-less c = search needs
@@ -55,12 +52,11 @@ estimate-spec =
     Inv-loop
     μ-loop
     new-requires
+    start-requires
     loop-holds
     add-k
-    loudness-requires
-    fill-requires
+    turn-requires
     compute-level-requires
-    digest-requires
     loop-less
     loop-again
     digest-levels-requires

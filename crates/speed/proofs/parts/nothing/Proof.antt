@@ -7,10 +7,13 @@ use Rattle.speed.proofs.parts.nothing.Statement.{statement}
 use Rattle.speed.proofs.parts.nothing.Tie as tie
 
 abbrev Inv-loop : tie.InvT-loop
-Inv-loop frame₀ ask digest₀ seed₀ frames k₀ frame digest seed k = (length frame ≡ length frame₀) × (k ≤ frames)
+Inv-loop frame₀ ask tape₀ frames k₀ frame tape k = (length frame ≡ length frame₀) × (k ≤ frames)
 
 abbrev μ-loop : tie.MeasureT-loop
-μ-loop frame₀ ask digest₀ seed₀ frames k₀ frame digest seed k = frames - k
+μ-loop frame₀ ask tape₀ frames k₀ frame tape k = frames - k
+
+start-requires : tie.Need-start-requires Inv-loop μ-loop
+start-requires c κs = search needs
 
 loop-holds : tie.Need-loop-holds Inv-loop μ-loop
 loop-holds c = search needs
@@ -18,14 +21,8 @@ loop-holds c = search needs
 add-k : tie.Need-add-k Inv-loop μ-loop
 add-k c = search needs
 
-loudness-requires : tie.Need-loudness-requires Inv-loop μ-loop
-loudness-requires c κs = search needs
-
-fill-requires : tie.Need-fill-requires Inv-loop μ-loop
-fill-requires c κs = search needs
-
-digest-requires : tie.Need-digest-requires Inv-loop μ-loop
-digest-requires c κs = search needs
+turn-requires : tie.Need-turn-requires Inv-loop μ-loop
+turn-requires c κs = search needs
 
 loop-less : tie.Need-loop-less Inv-loop μ-loop
 loop-less c = search needs
@@ -45,11 +42,10 @@ nothing-spec =
     (tie.spec
     Inv-loop
     μ-loop
+    start-requires
     loop-holds
     add-k
-    loudness-requires
-    fill-requires
-    digest-requires
+    turn-requires
     loop-less
     loop-again
     same-length

@@ -8,13 +8,16 @@ use Rattle.speed.proofs.parts.ramp.Statement.{statement}
 use Rattle.speed.proofs.parts.ramp.Tie as tie
 
 abbrev Inv-loop : tie.InvT-loop
-Inv-loop frame₀ ask clip factor applier₀ digest₀ refused₀ seed₀ frames k₀ frame applier digest refused seed k = (length frame ≡ length frame₀) × (k ≤ frames)
+Inv-loop frame₀ ask clip factor applier₀ tape₀ refused₀ frames k₀ frame applier tape refused k = (length frame ≡ length frame₀) × (k ≤ frames)
 
 abbrev μ-loop : tie.MeasureT-loop
-μ-loop frame₀ ask clip factor applier₀ digest₀ refused₀ seed₀ frames k₀ frame applier digest refused seed k = frames - k
+μ-loop frame₀ ask clip factor applier₀ tape₀ refused₀ frames k₀ frame applier tape refused k = frames - k
 
 new-requires : tie.Need-new-requires Inv-loop μ-loop
 new-requires c κs = search needs
+
+start-requires : tie.Need-start-requires Inv-loop μ-loop
+start-requires c κs = search needs
 
 loop-holds : tie.Need-loop-holds Inv-loop μ-loop
 loop-holds c = search needs
@@ -22,11 +25,8 @@ loop-holds c = search needs
 add-k : tie.Need-add-k Inv-loop μ-loop
 add-k c = search needs
 
-loudness-requires : tie.Need-loudness-requires Inv-loop μ-loop
-loudness-requires c κs = search needs
-
-fill-requires : tie.Need-fill-requires Inv-loop μ-loop
-fill-requires c κs = search needs
+turn-requires : tie.Need-turn-requires Inv-loop μ-loop
+turn-requires c κs = search needs
 
 pick-f32-requires : tie.Need-pick-f32-requires Inv-loop μ-loop
 pick-f32-requires c κs = search needs
@@ -37,19 +37,16 @@ set-gain-factor-requires c κs = search needs
 apply-gain-requires : tie.Need-apply-gain-requires Inv-loop μ-loop
 apply-gain-requires c κs = search needs
 
-digest-requires : tie.Need-digest-requires Inv-loop μ-loop
-digest-requires c κs = search needs
-
 loop-less : tie.Need-loop-less Inv-loop μ-loop
 loop-less c = search needs
 
 loop-again : tie.Need-loop-again Inv-loop μ-loop
 loop-again c =
-    let at-apply = c .before .before .before .before .before .before .before in
-    let at-fill = at-apply .before .before .before .before .before .before .before in
-    let at-test = at-fill .before .before .before in
+    let at-call = c .before .before .before .before .before in
+    let at-turn = at-call .before .before .before .before .before .before .before in
+    let at-test = at-turn .before .before in
     let at = at-test .before .loop in
-    (at-apply .apply-gain .kept .1 .0 ∙ at-fill .fill .kept .0 ∙ at .inv .0, omega (arith, at-test .loop-test .taken))
+    (at-call .apply-gain .kept .1 .0 ∙ at-turn .turn .kept .0 ∙ at .inv .0, omega (arith, at-test .loop-test .taken))
 
 mix-requires : tie.Need-mix-requires Inv-loop μ-loop
 mix-requires c κs = search needs
@@ -67,14 +64,13 @@ ramp-spec =
     Inv-loop
     μ-loop
     new-requires
+    start-requires
     loop-holds
     add-k
-    loudness-requires
-    fill-requires
+    turn-requires
     pick-f32-requires
     set-gain-factor-requires
     apply-gain-requires
-    digest-requires
     loop-less
     loop-again
     mix-requires
