@@ -24,6 +24,7 @@ const RISE: f32 = 0.0028740764;
 
 // The envelope's last value (the Rust's `filter_state_level`), the samples of a channel and those of a
 // sub-frame.
+#[repr(C)]
 pub struct Estimator {
     pub level: f32,
     pub samples: usize,

@@ -34,6 +34,7 @@ const MOST: f32 = 25.0;
 
 // The headroom, the recent peaks, the largest peak since the last push, and how many milliseconds ago
 // that was. The Rust's SaturationProtectorState.
+#[repr(C)]
 pub struct Peaks {
     pub headroom: f32,
     pub ring: Ring,
@@ -43,6 +44,7 @@ pub struct Peaks {
 
 // The headroom to start with, how many adjacent speech frames are asked for, how many there are, the
 // headroom that is published, and the two states.
+#[repr(C)]
 pub struct Protector {
     pub initial: f32,
     pub threshold: u32,

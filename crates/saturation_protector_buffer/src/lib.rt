@@ -14,6 +14,7 @@ use units::replies::refusal;
 pub const CAPACITY: usize = 4;
 
 // The storage, the place where the next peak goes (the Rust's `next`) and how many peaks there are.
+#[repr(C)]
 pub struct Ring {
     pub stored: [f32; 4],
     pub place: usize,

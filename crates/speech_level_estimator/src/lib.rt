@@ -30,6 +30,7 @@ const BELOW: f32 = -20.0;
 
 // A weighted average of levels: how many milliseconds of speech are left until it is trusted, the sum of
 // the levels by their weights, and the sum of the weights. The Rust's LevelEstimatorState.
+#[repr(C)]
 pub struct Average {
     pub left: u32,
     pub sum: f32,

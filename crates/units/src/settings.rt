@@ -9,6 +9,7 @@ use crate::kinds::Dbfs;
 pub const LARGEST_THRESHOLD: u32 = 200;
 
 // The Rust's AdaptiveDigitalConfig.
+#[repr(C)]
 pub struct Settings {
     // How far below full scale a reading is to end: `headroom_db`.
     pub headroom: Db,
