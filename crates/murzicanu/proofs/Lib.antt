@@ -1,0 +1,3 @@
+-- What the walks of the exported functions share.
+mod Lent
+mod Values

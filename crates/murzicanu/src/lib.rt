@@ -1,0 +1,118 @@
+// The library that C and Rust link: the chain and the limiter over states that the caller owns and lends. Every
+// function answers a reply's number, 0 where it is done; a refused step changes neither the state nor the
+// frame. include/murzicanu.h declares them for C.
+
+ghost use mathlib.Core.Path.{_≡_};
+ghost use Rattle.units.specs.Replies.{done};
+ghost use Rattle.limiter.specs.Scale.{FullScale};
+ghost use Rattle.kept.specs.Calls.{limiterMade, limiterStepped, limiterRead, chainMade, chainStepped, chainRead};
+use kept::calls::KeptAnswer;
+use kept::calls::Published;
+use kept::calls::limit_frame;
+use kept::calls::make_chain;
+use kept::calls::make_limiter;
+use kept::calls::read_chain;
+use kept::calls::read_limiter;
+use kept::calls::take_frame;
+use kept::states::KeptChain;
+use kept::states::KeptLimiter;
+use units::figures::Figures;
+use units::settings::Settings;
+
+// Makes a new chain for channels of so many samples; refused with 1 or 4, and then the chain is all 0, which
+// every step refuses.
+#[no_mangle]
+pub extern "C" fn murzicanu_chain_new(
+    chain: &mut KeptChain,
+    settings: &Settings,
+    threshold: u32,
+    samples: usize,
+) -> u32
+    ensures { λ r. ⌜ r ≡ chainMade (now (settings .entry)) threshold samples .reply ⌝ }
+    ensures { λ _. ⌜ now (chain .exit) ≡ chainMade (now (settings .entry)) threshold samples .chain ⌝ }
+{
+    let given = *settings;
+    let made = make_chain(given, threshold, samples);
+    *chain = made.chain;
+    made.reply
+}
+
+// Takes a frame with its figures: levels it where it stands, and tells what it was. Refused with 1, 4, 2 or 3, and
+// then neither the chain nor the frame changes, and the answer is all 0.
+#[no_mangle]
+pub extern "C" fn murzicanu_chain_step(
+    chain: &mut KeptChain,
+    figures: &Figures,
+    frame: &mut [f32],
+    channels: usize,
+    samples: usize,
+    answer: &mut KeptAnswer,
+) -> u32
+    ensures { λ r. ⌜ r ≡ chainStepped (now (chain .entry)) (now (figures .entry)) (now (frame .entry)) channels samples .next .reply ⌝ }
+    ensures { λ _. ⌜ now (chain .exit) ≡ chainStepped (now (chain .entry)) (now (figures .entry)) (now (frame .entry)) channels samples .next .chain ⌝ }
+    ensures { λ _. ⌜ now (answer .exit) ≡ chainStepped (now (chain .entry)) (now (figures .entry)) (now (frame .entry)) channels samples .next .answer ⌝ }
+    ensures { λ _. ⌜ now (frame .exit) ≡ chainStepped (now (chain .entry)) (now (figures .entry)) (now (frame .entry)) channels samples .frame ⌝ }
+    ensures scale { λ r. ⌜ (r ≡ done → FullScale (now (frame .exit))) ⌝ }
+{
+    let taken = *chain;
+    let given = *figures;
+    let next = take_frame(taken, given, frame, channels, samples);
+    *chain = next.chain;
+    *answer = next.answer;
+    next.reply
+}
+
+// Reads what a chain publishes; a chain that fails its test is refused with 4, and then all is 0.
+#[no_mangle]
+pub extern "C" fn murzicanu_chain_read(chain: &KeptChain, published: &mut Published) -> u32
+    ensures { λ r. ⌜ r ≡ chainRead (now (chain .entry)) .reply ⌝ }
+    ensures { λ _. ⌜ now (published .exit) ≡ chainRead (now (chain .entry)) .published ⌝ }
+{
+    let kept = *chain;
+    let reading = read_chain(kept);
+    *published = reading.published;
+    reading.reply
+}
+
+// Makes a new limiter for channels of so many samples; refused with 1, and then the limiter is all 0, which
+// every step refuses.
+#[no_mangle]
+pub extern "C" fn murzicanu_limiter_new(limiter: &mut KeptLimiter, samples: usize) -> u32
+    ensures { λ r. ⌜ r ≡ limiterMade samples .reply ⌝ }
+    ensures { λ _. ⌜ now (limiter .exit) ≡ limiterMade samples .limiter ⌝ }
+{
+    let made = make_limiter(samples);
+    *limiter = made.limiter;
+    made.reply
+}
+
+// Limits a frame where it stands. Refused with 1, 4 or 3, and then neither the limiter nor the frame changes.
+#[no_mangle]
+pub extern "C" fn murzicanu_limiter_step(
+    limiter: &mut KeptLimiter,
+    frame: &mut [f32],
+    channels: usize,
+    samples: usize,
+) -> u32
+    ensures { λ r. ⌜ r ≡ limiterStepped (now (limiter .entry)) (now (frame .entry)) channels samples .next .reply ⌝ }
+    ensures { λ _. ⌜ now (limiter .exit) ≡ limiterStepped (now (limiter .entry)) (now (frame .entry)) channels samples .next .limiter ⌝ }
+    ensures { λ _. ⌜ now (frame .exit) ≡ limiterStepped (now (limiter .entry)) (now (frame .entry)) channels samples .frame ⌝ }
+    ensures scale { λ r. ⌜ (r ≡ done → FullScale (now (frame .exit))) ⌝ }
+{
+    let taken = *limiter;
+    let next = limit_frame(taken, frame, channels, samples);
+    *limiter = next.limiter;
+    next.reply
+}
+
+// Reads the limiter's envelope; a limiter that fails its test is refused with 4, and then the level is 0.
+#[no_mangle]
+pub extern "C" fn murzicanu_limiter_read(limiter: &KeptLimiter, level: &mut f32) -> u32
+    ensures { λ r. ⌜ r ≡ limiterRead (now (limiter .entry)) .reply ⌝ }
+    ensures { λ _. ⌜ now (level .exit) ≡ limiterRead (now (limiter .entry)) .level ⌝ }
+{
+    let kept = *limiter;
+    let reading = read_limiter(kept);
+    *level = reading.level;
+    reading.reply
+}

@@ -1,0 +1,272 @@
+//! The speech leveller whose behaviour is proved, for Rust.
+//!
+//! A [`Chain`] is the whole box: it takes a frame of 10 ms of sound with five figures that were metered of it, levels
+//! the sound where it stands, and tells what the frame was. A [`Limiter`] is its last part alone. The work is done by
+//! `libmurzicanu.a`, whose every function is proved to meet its contract; this crate only gives it Rust's types. What
+//! is proved, among other things:
+//!
+//! - every sample that a chain or a limiter leaves lies between -32768 and 32767;
+//! - speech of fewer frames than the threshold that a non-speech frame closes leaves no trace in anything that is
+//!   published later;
+//! - a refused call changes nothing.
+//!
+//! ```no_run
+//! use murzicanu::{Answer, Chain, Figures, Settings, USUAL_THRESHOLD};
+//!
+//! let mut chain = Chain::new(&Settings::default(), USUAL_THRESHOLD, 480)?;
+//! let figures = Figures { probability: 0.95, rms: -32.0, peak: -20.0, noise: -80.0, envelope: -60.0 };
+//! let mut frame = [0.0_f32; 480];
+//! match chain.step(&figures, &mut frame, 1)? {
+//!     Answer::NonSpeech => println!("no speech"),
+//!     Answer::Waiting { missing } => println!("{missing} frames of speech are missing"),
+//!     Answer::Publishing { level, headroom } => println!("{level} dBFS, headroom {headroom} dB"),
+//! }
+//! # Ok::<(), murzicanu::Refusal>(())
+//! ```
+
+#![warn(missing_docs)]
+
+use std::error::Error;
+use std::fmt;
+
+mod library;
+
+/// How many adjacent speech frames make a reading, as the Rust's own box has it.
+pub const USUAL_THRESHOLD: u32 = 12;
+
+/// Why a call was refused. Nothing changed then. Where several apply, the first in the order `Shape`, `Setting`,
+/// `Figure`, `Sample` is told.
+#[derive(Clone, Copy, Debug, PartialEq, Eq, Hash)]
+pub enum Refusal {
+    /// Channels not 1 to 8, samples not 40 to 480 in steps of 20, or a buffer that is not channels times samples long.
+    Shape,
+    /// A figure that is not a number or out of its range.
+    Figure,
+    /// A sample that is not a number, infinite or too large: beyond 65536 for a chain, 33554432 for a limiter.
+    Sample,
+    /// A setting out of its range, or a threshold that is not 1 to 200.
+    Setting,
+}
+
+impl Refusal {
+    /// The number that stands on the card: 1 shape, 2 figure, 3 sample, 4 setting.
+    pub fn number(self) -> u32 {
+        match self {
+            Refusal::Shape => 1,
+            Refusal::Figure => 2,
+            Refusal::Sample => 3,
+            Refusal::Setting => 4,
+        }
+    }
+
+    fn of(reply: u32) -> Result<(), Refusal> {
+        match reply {
+            0 => Ok(()),
+            1 => Err(Refusal::Shape),
+            2 => Err(Refusal::Figure),
+            3 => Err(Refusal::Sample),
+            _ => Err(Refusal::Setting),
+        }
+    }
+}
+
+impl fmt::Display for Refusal {
+    fn fmt(&self, f: &mut fmt::Formatter<'_>) -> fmt::Result {
+        let what = match self {
+            Refusal::Shape => "the channels, the samples or the buffer's length",
+            Refusal::Figure => "a figure",
+            Refusal::Sample => "a sample",
+            Refusal::Setting => "a setting or the state",
+        };
+        write!(f, "refused with {}: {} is not as it should be", self.number(), what)
+    }
+}
+
+impl Error for Refusal {}
+
+/// What an operator sets. The default is the Rust's own.
+#[derive(Clone, Copy, Debug, PartialEq)]
+#[repr(C)]
+pub struct Settings {
+    /// How far below full scale a reading is to end, 0 to 50 dB.
+    pub headroom: f32,
+    /// The largest gain, above 0 and up to 50 dB.
+    pub largest_gain: f32,
+    /// The gain to start with, 0 to 50 dB.
+    pub initial_gain: f32,
+    /// By how much the gain may change, 0.01 to 100 dB a second.
+    pub change: f32,
+    /// The loudest that noise may come out, -90 to 0 dBFS.
+    pub noise: f32,
+}
+
+impl Default for Settings {
+    fn default() -> Settings {
+        Settings { headroom: 5.0, largest_gain: 50.0, initial_gain: 15.0, change: 6.0, noise: -50.0 }
+    }
+}
+
+/// What the meters said of a frame.
+#[derive(Clone, Copy, Debug, PartialEq)]
+#[repr(C)]
+pub struct Figures {
+    /// The probability that it is speech, 0 to 1.
+    pub probability: f32,
+    /// Its level, above -150 and below 50 dBFS.
+    pub rms: f32,
+    /// Its peak, -150 to 50 dBFS.
+    pub peak: f32,
+    /// The level of the noise, -150 to 50 dBFS.
+    pub noise: f32,
+    /// The limiter's envelope, -150 to 100 dBFS.
+    pub envelope: f32,
+}
+
+/// What a frame was to the chain.
+#[derive(Clone, Copy, Debug, PartialEq)]
+pub enum Answer {
+    /// No speech.
+    NonSpeech,
+    /// Speech of a run that is still shorter than the threshold.
+    Waiting {
+        /// So many speech frames are missing.
+        missing: u32,
+    },
+    /// Speech that counts: its level and headroom are published.
+    Publishing {
+        /// The level of the speech in dBFS.
+        level: f32,
+        /// The headroom in dB.
+        headroom: f32,
+    },
+}
+
+/// What a chain publishes.
+#[derive(Clone, Copy, Debug, PartialEq)]
+pub struct Published {
+    /// The level of the speech in dBFS.
+    pub level: f32,
+    /// The headroom in dB.
+    pub headroom: f32,
+    /// The gain in dB.
+    pub gain: f32,
+    /// Whether the level is trusted.
+    pub confident: bool,
+}
+
+/// The whole box: the level of the speech, the headroom, the gain and the limiter. It owns its state, allocates
+/// nothing, and can be cloned.
+#[derive(Clone)]
+pub struct Chain {
+    state: library::Chain,
+    samples: usize,
+}
+
+impl Chain {
+    /// A new chain for frames with so many samples a channel (10 ms: 480 at 48 kHz).
+    ///
+    /// # Errors
+    ///
+    /// [`Refusal::Shape`] where no frame has so many samples, then [`Refusal::Setting`].
+    pub fn new(settings: &Settings, threshold: u32, samples: usize) -> Result<Chain, Refusal> {
+        let mut state = library::Chain::default();
+        // SAFETY: both references are to whole structs in the layout that the library has.
+        let reply = unsafe { library::murzicanu_chain_new(&mut state, settings, threshold, samples) };
+        Refusal::of(reply).map(|()| Chain { state, samples })
+    }
+
+    /// Takes a frame, channel after channel, with its figures: levels it where it stands, and tells what it was.
+    ///
+    /// # Errors
+    ///
+    /// The refusal; the chain and the frame are then as they were.
+    pub fn step(&mut self, figures: &Figures, frame: &mut [f32], channels: usize) -> Result<Answer, Refusal> {
+        let mut answer = library::Answer::default();
+        // SAFETY: all references are to whole structs, the frame is handed on with its length, and Rust keeps them
+        // apart.
+        let reply = unsafe {
+            library::murzicanu_chain_step(
+                &mut self.state,
+                figures,
+                frame.as_mut_ptr(),
+                frame.len(),
+                channels,
+                self.samples,
+                &mut answer,
+            )
+        };
+        Refusal::of(reply).map(|()| match answer.kind {
+            0 => Answer::NonSpeech,
+            1 => Answer::Waiting { missing: answer.missing },
+            _ => Answer::Publishing { level: answer.level, headroom: answer.headroom },
+        })
+    }
+
+    /// What the chain publishes now.
+    ///
+    /// # Errors
+    ///
+    /// None is known: a chain that was made passes its test after every frame.
+    pub fn published(&self) -> Result<Published, Refusal> {
+        let mut now = library::Published::default();
+        // SAFETY: as above.
+        let reply = unsafe { library::murzicanu_chain_read(&self.state, &mut now) };
+        Refusal::of(reply).map(|()| Published {
+            level: now.level,
+            headroom: now.headroom,
+            gain: now.gain,
+            confident: now.confident == 1,
+        })
+    }
+
+    /// The samples that a channel of its frames has.
+    pub fn samples(&self) -> usize {
+        self.samples
+    }
+}
+
+/// The limiter alone: what it leaves lies between -32768 and 32767.
+#[derive(Clone)]
+pub struct Limiter {
+    state: library::Limiter,
+    samples: usize,
+}
+
+impl Limiter {
+    /// A new limiter for frames with so many samples a channel.
+    ///
+    /// # Errors
+    ///
+    /// [`Refusal::Shape`] where no frame has so many.
+    pub fn new(samples: usize) -> Result<Limiter, Refusal> {
+        let mut state = library::Limiter::default();
+        // SAFETY: the reference is to a whole struct in the layout that the library has.
+        let reply = unsafe { library::murzicanu_limiter_new(&mut state, samples) };
+        Refusal::of(reply).map(|()| Limiter { state, samples })
+    }
+
+    /// Limits a frame, channel after channel, where it stands.
+    ///
+    /// # Errors
+    ///
+    /// The refusal; the limiter and the frame are then as they were.
+    pub fn step(&mut self, frame: &mut [f32], channels: usize) -> Result<(), Refusal> {
+        // SAFETY: the frame is handed on with its length, and Rust keeps it apart from the state.
+        let reply = unsafe {
+            library::murzicanu_limiter_step(&mut self.state, frame.as_mut_ptr(), frame.len(), channels, self.samples)
+        };
+        Refusal::of(reply)
+    }
+
+    /// The envelope's last value, on the scale of samples.
+    ///
+    /// # Errors
+    ///
+    /// None is known: a limiter that was made passes its test after every frame.
+    pub fn level(&self) -> Result<f32, Refusal> {
+        let mut level = 0.0;
+        // SAFETY: as above.
+        let reply = unsafe { library::murzicanu_limiter_read(&self.state, &mut level) };
+        Refusal::of(reply).map(|()| level)
+    }
+}
