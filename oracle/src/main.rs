@@ -17,6 +17,7 @@
 //!   oracle strips [--seed N] [--count N] -- COMMAND..
 //!                                         runs COMMAND on the fixed strips and on so many random ones
 //!                                         (2000), and compares byte for byte
+//!   oracle recording STRIP                reads a WAV file, and writes what the program `recording` must write
 //!
 //! A part that is added has a file of its own, with its questions and the answers that are due, and
 //! its lines in `parts` and in list.rs.
@@ -35,6 +36,7 @@ mod list;
 mod protector;
 mod random;
 mod ratio;
+mod recording;
 mod ring;
 mod scale;
 mod shrink;
@@ -44,6 +46,7 @@ mod strip;
 mod strips;
 
 use drive::{Length, Part};
+use std::fs::File;
 use std::io::{stdin, stdout, BufReader, BufWriter};
 use std::process::exit;
 
@@ -52,7 +55,8 @@ const USAGE: &str = "usage: oracle list questions|answers
        oracle compare [--seed N] [--only PART] --short|--long -- COMMAND..
        oracle scale [--seed N] [--minutes M | --rounds R] [--only PART] -- COMMAND..
        oracle strip
-       oracle strips [--seed N] [--count N] -- COMMAND..";
+       oracle strips [--seed N] [--count N] -- COMMAND..
+       oracle recording STRIP";
 
 fn usage() -> ! {
     eprintln!("{}", USAGE);
@@ -251,6 +255,15 @@ fn main() {
         Some("strips") => {
             let (seed, count, command) = strips_wish(&words[1..]);
             exit(if strips::compare(seed, count, &command) { 0 } else { 1 });
+        }
+        Some("recording") if words.len() == 2 => {
+            let (mut input, mut output) = (BufReader::new(stdin()), BufWriter::new(stdout()));
+            let levelled = File::open(&words[1])
+                .and_then(|strip| recording::level(&mut input, &mut BufReader::new(strip), &mut output));
+            if let Err(why) = levelled {
+                eprintln!("oracle: {}", why);
+                exit(1);
+            }
         }
         _ => usage(),
     }

@@ -52,7 +52,7 @@ fn two(bytes: &[u8], from: usize) -> u32 {
 }
 
 /// "fewer than 3 bytes 5; version 7; head length 6; cut 5; then 1, 4".
-fn head(input: &mut dyn Read) -> io::Result<Reply<Head>> {
+pub fn head(input: &mut dyn Read) -> io::Result<Reply<Head>> {
     let mut bytes = take(input, 3)?;
     if bytes.len() < 3 {
         return Ok(Err(CUT));
@@ -82,7 +82,7 @@ fn head(input: &mut dyn Read) -> io::Result<Reply<Head>> {
 }
 
 /// "no byte, end; one byte 5; length 6; cut 5; then 2". None is the end.
-fn record(input: &mut dyn Read) -> io::Result<Reply<Option<Figures>>> {
+pub fn record(input: &mut dyn Read) -> io::Result<Reply<Option<Figures>>> {
     let mut bytes = take(input, 2)?;
     if bytes.is_empty() {
         return Ok(Ok(None));

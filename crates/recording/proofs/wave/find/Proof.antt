@@ -1,0 +1,40 @@
+-- `recording::wave::find` is safe and ends. The measure is the number of turns that are left. Assumes nothing.
+use borrow.Author.Needs.{needs}
+use Rattle.recording.proofs.wave.find.Statement.{statement}
+use Rattle.recording.proofs.wave.find.Tie as tie
+
+abbrev Inv-loop : tie.InvT-loop
+Inv-loop now₀ turns₀ now turns = Unit {0}
+
+abbrev μ-loop : tie.MeasureT-loop
+μ-loop now₀ turns₀ now turns = turns
+
+starts-requires : tie.Need-starts-requires Inv-loop μ-loop
+starts-requires c κs = search needs
+
+unknown-requires : tie.Need-unknown-requires Inv-loop μ-loop
+unknown-requires c κs = search needs
+
+loop-holds : tie.Need-loop-holds Inv-loop μ-loop
+loop-holds c = search needs
+
+next-chunk-requires : tie.Need-next-chunk-requires Inv-loop μ-loop
+next-chunk-requires c κs = search needs
+
+sub-turns : tie.Need-sub-turns Inv-loop μ-loop
+sub-turns c = search needs
+
+loop-less : tie.Need-loop-less Inv-loop μ-loop
+loop-less c = search needs
+
+loop-again : tie.Need-loop-again Inv-loop μ-loop
+loop-again c = search needs
+
+returns : tie.Need-returns Inv-loop μ-loop
+returns c = search needs
+
+returns-2 : tie.Need-returns-2 Inv-loop μ-loop
+returns-2 c = search needs
+
+pub find-spec : {M : Type 1} → statement M
+find-spec = tie.close (tie.spec Inv-loop μ-loop starts-requires unknown-requires loop-holds next-chunk-requires sub-turns loop-less loop-again returns returns-2)

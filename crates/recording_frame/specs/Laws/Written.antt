@@ -1,0 +1,119 @@
+-- Writing is never refused after the chain: what a step hands out is of full scale, and fits where it was read. Laws.
+-- Assumes nothing.
+use mathlib.Core.Path.{_≡_, refl, sym, ap, ap₂, subst, _∙_}
+use mathlib.Core.Bool.{Bool, true, false, _&&_, cond}
+use mathlib.Core.List.{List, [], _∷_, _++_, append-nil}
+use Prim.Native.Nat.{ℕ, zero, suc, _+_, _*_, _-_, _/_, _%_}
+use native.Mathlib.Nat.{le-of-eq}
+use native.Mathlib.Omega.{arith}
+use lib.Dec.{T, eqb, ltb, eqb→eq}
+use lib.IntN.{pos}
+use lib.ListN.{length, drop, drop-of-length-le}
+use lib.Ieee.{Float, nan, binary32, fits, ofBits, ofInt, neg, le}
+use lib.Ieee.Fits.{ofInt-fits, neg-fits, and-i}
+use Rattle.rounding.specs.Laws.Exact.{constant-number}
+use Rattle.rounding.specs.Laws.Order.{units→le}
+use Rattle.lists.specs.Each.{Each}
+use Rattle.floats.specs.Laws.Kinds.{passed}
+use Rattle.units.specs.Output.{Put}
+use Rattle.units.specs.Replies.{done, badShape}
+use Rattle.units.specs.declared.figures.Figures.{Figures}
+use Rattle.frames.specs.Facts.{and-first, and-second}
+use Rattle.frames.specs.Shape.{isShape}
+use Rattle.gain_applier.specs.Range.{Held}
+use Rattle.limiter.specs.Scale.{Fits16, FullScale}
+use Rattle.chain.specs.Calls.{called}
+use Rattle.chain.specs.Held.{HeldChain, HeldFigures}
+use Rattle.chain.specs.Laws.Calls.{called-full-scale}
+use Rattle.chain.specs.Laws.Frames.{either}
+use Rattle.chain.specs.declared.Chain.{Chain}
+use Rattle.wav_format.specs.Bytes.{littleAt}
+use Rattle.wav_format.specs.Samples.{FrameRead, soundOf, heardFrom, frameRead, fullScale, allFullScale, bytesFrom, frameWritten}
+use Rattle.wav_format.specs.Laws.Samples.{heard-length, frame-heard, frame-written}
+use Rattle.recording_frame.specs.Levelling.{Outcome, levelled}
+use Rattle.recording_frame.specs.Laws.Lengths.{called-long}
+use Rattle.recording_frame.specs.Laws.Ways.{taken}
+
+-- ---- a frame of full scale passes the writer's test
+so : (b : Bool) → T b → b ≡ true
+so true t = refl
+so false t = absurd t
+
+sample-full : (x : Float) → Fits16 x → fullScale x ≡ true
+unfolding fullScale ofBits
+sample-full x i =
+    let low = ofBits binary32 0xc700_0000 in
+    let high = ofBits binary32 0x46ff_fe00 in
+    ap₂ _&&_ (so (le low x) (units→le low x (constant-number 0xc700_0000 tt) (i .number) (i .above)))
+    (so (le x high) (units→le x high (i .number) (constant-number 0x46ff_fe00 tt) (i .below)))
+
+all-full : (xs : List Float) → FullScale xs → allFullScale xs ≡ true
+unfolding Each allFullScale
+all-full [] h = refl
+all-full (x ∷ xs) h = ap₂ _&&_ (sample-full x (h .0)) (all-full xs (h .1))
+
+-- ---- what is read is f32
+sound-held : (n : ℕ) → T (fits binary32 (soundOf n))
+unfolding soundOf
+sound-held n =
+    either (λ (x : Float). T (fits binary32 x)) (ltb n 32768) (ofInt-fits binary32 (pos n))
+    (neg-fits binary32 (ofInt binary32 (pos (65536 - n))) (ofInt-fits binary32 (pos (65536 - n))))
+
+nan-held : T (fits binary32 nan)
+unfolding fits
+nan-held = tt
+
+heard-held : (bytes : List ℕ) (channels samples j k : ℕ) → Held (heardFrom bytes channels samples j k)
+unfolding heardFrom
+heard-held bytes channels samples j zero i = nan-held
+heard-held bytes channels samples j (suc k) zero = sound-held (littleAt bytes (2 * (j % samples * channels + j / samples)) 2)
+heard-held bytes channels samples j (suc k) (suc i) = heard-held bytes channels samples (j + 1) k i
+
+only-true : (b : Bool) → cond b done badShape ≡ done → b ≡ true
+only-true true h = refl
+only-true false h = absurd (omega (arith, h))
+
+module _ (chain : Chain) (figures : Figures) (bytes : List ℕ) (frame : List Float) (channels samples : ℕ) (held : HeldChain chain) (given : HeldFigures figures)
+    (read : frameRead bytes frame channels samples .reply ≡ done) (step : called chain figures (frameRead bytes frame channels samples .frame) channels samples .told .reply ≡ done) where
+  fitting : isShape channels samples (length frame) && eqb (length bytes) (2 * length frame) ≡ true
+  unfolding frameRead
+  fitting = only-true (isShape channels samples (length frame) && eqb (length bytes) (2 * length frame)) read
+
+  heard-is : frameRead bytes frame channels samples .frame ≡ heardFrom bytes channels samples 0 (length frame)
+  heard-is = ap (λ (r : FrameRead). r .frame) (frame-heard bytes frame channels samples fitting)
+
+  -- the levelled frame
+  abbrev after : List Float
+  after = called chain figures (frameRead bytes frame channels samples .frame) channels samples .frame
+
+  long : length after ≡ length frame
+  long = called-long chain figures (frameRead bytes frame channels samples .frame) channels samples ∙ ap length heard-is ∙ heard-length bytes channels samples 0 (length frame)
+
+  full : allFullScale after ≡ true
+  full =
+      all-full after
+      (called-full-scale chain figures (frameRead bytes frame channels samples .frame) channels samples held given
+      (subst Held (sym heard-is) (heard-held bytes channels samples 0 (length frame))) step)
+
+  shape : isShape channels samples (length after) ≡ true
+  shape = ap (isShape channels samples) long ∙ and-first (isShape channels samples (length frame)) (eqb (length bytes) (2 * length frame)) fitting
+
+  twice : length bytes ≡ 2 * length after
+  twice =
+      eqb→eq (length bytes) (2 * length frame) (passed (and-second (isShape channels samples (length frame)) (eqb (length bytes) (2 * length frame)) fitting))
+      ∙ ap (λ (n : ℕ). 2 * n) (sym long)
+
+  written : frameWritten after channels samples bytes ≡ record { reply = done; out = bytesFrom after channels samples 0 (length after) ++ drop (2 * length after) bytes }
+  written = frame-written after channels samples bytes shape full (le-of-eq (sym twice))
+
+  -- Where the bytes are a frame's and the step is done, the whole is done,
+  pub never-refused : levelled chain figures bytes frame channels samples .next .reply ≡ done
+  never-refused = ap (λ (o : Outcome). o .next .reply) (taken chain figures bytes frame channels samples read step) ∙ ap (λ (p : Put). p .reply) written
+
+  -- and the bytes are those of the levelled frame, every one.
+  pub levelled-bytes : levelled chain figures bytes frame channels samples .bytes ≡ bytesFrom after channels samples 0 (length after)
+  levelled-bytes =
+      ap (λ (o : Outcome). o .bytes) (taken chain figures bytes frame channels samples read step)
+      ∙ ap (λ (p : Put). p .out) written
+      ∙ ap (λ (rest : List ℕ). bytesFrom after channels samples 0 (length after) ++ rest) (drop-of-length-le bytes (le-of-eq twice))
+      ∙ append-nil (bytesFrom after channels samples 0 (length after))

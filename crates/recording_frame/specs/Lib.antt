@@ -1,0 +1,3 @@
+-- A frame of a recording through the chain, and what is proved of it.
+pub mod Levelling
+pub mod Laws

@@ -1,0 +1,6 @@
+-- What is proved of the definitions.
+pub mod Bytes
+pub mod Head
+pub mod Samples
+pub mod Rounds
+pub mod Back

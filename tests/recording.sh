@@ -1,0 +1,225 @@
+#!/usr/bin/env bash
+# The program `recording`, run from outside, the meter, and the cough of examples/cough.
+cd "$(dirname "$0")/.." || exit 1
+. tests/check.bash
+if [ ! -f target/bin/recording ]; then
+    echo "not ok recording: the program is built"
+    exit 1
+fi
+room=$(mktemp -d)
+trap 'rm -rf "$room"' EXIT
+
+wav() { tests/wav-maker "$@"; }
+# A strip of so many records for channels of so many samples.
+strip() { # RECORDS SAMPLES
+    { echo "head threshold 4 samples $2" && yes "0.9 -30 -20 -60 -40" | head -n "$1"; } | tools/strip-maker to-strip
+}
+run() { tests/run-program recording "$@"; }
+for samples in 40 160 441 480; do strip 10 "$samples" >"$room/$samples.strip" 2>/dev/null; done
+
+# The stored WAV file is of the maker, has a LIST chunk of odd size before the samples and a short last frame; rt has
+# run the program on it.
+wav --rate 4000 --channels 2 --samples 1015 --odd-list --seed 3 >"$room/stored"
+same_file "recording: the stored WAV file is the maker's" "$room/stored" crates/recording/stdin
+stored=crates/recording/data/service.strip
+run $stored <crates/recording/stdin >"$room/got" 2>"$room/err"
+same "recording: it ends with status 0" 0 $?
+same_file "recording: the stored WAV file" crates/recording/stdout "$room/got"
+same "recording: nothing is told" "" "$(cat "$room/err")"
+
+# What is refused: one line each, and not a byte of a recording.
+refuses() { # NAME LINE WORDS..: the file is standard input
+    local name=$1 line=$2
+    shift 2
+    run "$@" >"$room/got" 2>"$room/err"
+    same "recording: $name" "recording: $line" "$(cat "$room/err")"
+    same "recording: $name: nothing is written" 0 "$(wc -c <"$room/got")"
+}
+good=$room/good.wav
+wav --samples 4800 >"$good"
+refuses "no argument" "it takes one word, the path of a strip: recording STRIP < in.wav > out.wav" <"$good"
+refuses "two arguments" "it takes one word, the path of a strip: recording STRIP < in.wav > out.wav" "$room/480.strip" more <"$good"
+refuses "no such strip" "the strip: No such file or directory" "$room/nothing" <"$good"
+refuses "a folder in place of the strip" "the strip: Is a directory" "$room" <"$good"
+refuses "a strip that is cut in its head" "the strip is refused with 5 at its head" <(head -c 20 "$room/480.strip") <"$good"
+refuses "a strip of another version" "the strip is refused with 7 at its head" "$good" <"$good"
+refuses "an empty input" "not a WAV file" "$room/480.strip" </dev/null
+refuses "a text" "not a WAV file" "$room/480.strip" <README.md
+refuses "a file of eleven bytes" "not a WAV file" "$room/480.strip" < <(head -c 11 "$good")
+refuses "a folder in place of the recording" "standard input: Is a directory" "$room/480.strip" <.
+refuses "a file that ends after its start" "the WAV file ends before its samples" "$room/480.strip" < <(head -c 12 "$good")
+refuses "a file that ends in a chunk's head" "the WAV file ends before its samples" "$room/480.strip" < <(head -c 40 "$good")
+refuses "a file that ends in its format" "the format of the WAV file has fewer than 16 bytes" "$room/480.strip" < <(head -c 30 "$good")
+refuses "a format of 14 bytes" "the format of the WAV file has fewer than 16 bytes" "$room/480.strip" < <(wav --format-bytes 14)
+refuses "samples before the format" "the WAV file does not say its format before its samples" "$room/480.strip" \
+    < <(head -c 12 "$good"; printf 'data\x02\0\0\0\0\0')
+refuses "samples of 24 bits" "the samples are not 16-bit PCM" "$room/480.strip" < <(wav --bits 24)
+refuses "samples that are floats" "the samples are not 16-bit PCM" "$room/480.strip" < <(wav --tag 3)
+refuses "an extended format of floats" "the samples are not 16-bit PCM" "$room/480.strip" < <(wav --extended --tag 3)
+refuses "a group of samples that is too long" "the samples of the channels do not lie side by side, in two bytes each" \
+    "$room/480.strip" < <(wav --group 4)
+refuses "no channel" "the sound has 0 channels: 1 to 8 can be levelled" "$room/480.strip" < <(wav --channels 0)
+refuses "nine channels" "the sound has 9 channels: 1 to 8 can be levelled" "$room/480.strip" < <(wav --channels 9)
+for rate in 44100 22050 2000 50000 96000; do
+    refuses "$rate Hz" "10 ms at $rate Hz are no whole frame: 8000, 12000, 16000, 24000, 32000 or 48000 Hz can be levelled" \
+        "$room/480.strip" < <(wav --rate $rate)
+done
+refuses "another rate than the strip's" "the strip has 480 samples a frame, and the recording 160" "$room/480.strip" < <(wav --rate 16000)
+
+# What ends it on the way: what came before it is written.
+stops() { # NAME LINE BYTES STRIP: the file is standard input; BYTES are those of the samples
+    run "$4" >"$room/got" 2>"$room/err"
+    same "recording: $1" "recording: $2" "$(cat "$room/err")"
+    same "recording: $1: what came before it is written" "$((44 + $3))" "$(wc -c <"$room/got")"
+}
+wav --samples 4800 --short 1000 >"$room/cut.wav"
+stops "a recording that is cut" "the WAV file is cut: 1000 bytes of its samples are missing" 8600 "$room/480.strip" <"$room/cut.wav"
+stops "a recording that is cut inside a sample" "the WAV file is cut: 2 bytes of its samples are missing" 9598 "$room/480.strip" < <(wav --samples 4800 --short 1)
+stops "a strip that is too short" "the strip ends before the recording, which goes on with frame 11" 9600 "$room/480.strip" < <(wav --samples 4801)
+stops "a strip that is too long" "the recording ends before the strip, which goes on with record 10" 8160 "$room/480.strip" < <(wav --samples 4080)
+stops "a strip for no sample" "the recording ends before the strip, which goes on with record 1" 0 "$room/480.strip" < <(wav --samples 0)
+stops "a record that is cut" "the strip is refused with 5 at record 10" 8640 <(head -c 240 "$room/480.strip") <"$good"
+stops "a record of a wrong length" "the strip is refused with 6 at record 3" 1920 \
+    <(head -c 70 "$room/480.strip"; printf '\0\x15'; tail -c +73 "$room/480.strip") <"$good"
+stops "a record whose figure is no number" "the strip is refused with 2 at record 1" 0 \
+    <(head -c 28 "$room/480.strip"; printf '\x7f\xc0\0\0'; tail -c +33 "$room/480.strip") <"$good"
+
+# However the file says what it is: the samples come out the same.
+body() { tail -c +45 "$1"; }
+due=$room/due.wav
+run "$room/480.strip" <"$good" >"$due" 2>"$room/err"
+same "recording: a whole number of frames: nothing is told" "" "$(cat "$room/err")"
+alike() { # NAME: the file is standard input
+    run "$room/480.strip" >"$room/got" 2>"$room/err"
+    same "recording: $1: nothing is told" "" "$(cat "$room/err")"
+    same_file "recording: $1" "$due" "$room/got"
+}
+alike "an extended format" < <(wav --samples 4800 --extended)
+alike "an extended format, and a chunk of odd size before the samples" < <(wav --samples 4800 --extended --odd-list)
+alike "chunks after the samples" < <(wav --samples 4800 --late)
+alike "bytes after the samples" < <(cat "$good"; echo more)
+alike "a format that says it twice" < <(head -c 36 "$good"; tail -c +13 "$good" | head -c 24; tail -c +37 "$good")
+alike "a file that comes in pieces" < <(for at in 0 1 3 9 5003; do tail -c +$((at + 1)) "$good" | head -c $((at == 0 ? 1 : at == 1 ? 2 : at == 3 ? 6 : at == 9 ? 4994 : 99999)); sleep 0.02; done)
+run "$room/480.strip" < <(wav --samples 4800 --size 9601) >"$room/got" 2>/dev/null
+same_file "recording: a size that is no whole number of samples: the whole ones" "$due" "$room/got"
+for size in 4294967295 2147483647 2147418112; do
+    run "$room/480.strip" < <(wav --samples 4800 --size $size) >"$room/got" 2>"$room/err"
+    same "recording: a size of $size, which a pipe writes: nothing is told" "" "$(cat "$room/err")"
+    same "recording: a size of $size, which a pipe writes: the samples are the same, and the size is kept" "$(body "$due" | sha256sum) $size" \
+        "$(body "$room/got" | sha256sum) $(tail -c +41 "$room/got" | head -c 4 | od -An -tu4 | tr -d ' ')"
+done
+
+# A short last frame is as a whole one that ends in silence.
+run "$room/480.strip" < <(wav --samples 4600) >"$room/short" 2>"$room/err"
+same "recording: a short last frame: nothing is told" "" "$(cat "$room/err")"
+{ wav --samples 4600 --size 9600; head -c 400 /dev/zero; } | run "$room/480.strip" >"$room/got" 2>/dev/null
+same "recording: a short last frame: as one that ends in silence" "$(body "$room/got" | head -c 9200 | sha256sum)" "$(body "$room/short" | sha256sum)"
+
+# Eight channels with the same sound are levelled as one is.
+wav --samples 4800 --rate 16000 >"$room/one"
+python3 - "$room/one" >"$room/eight" <<'EIGHT'
+import struct, sys
+sound = open(sys.argv[1], "rb").read()[44:]
+body = b"".join(sound[i : i + 2] * 8 for i in range(0, len(sound), 2))
+sys.stdout.buffer.write(b"RIFF" + struct.pack("<I", 36 + len(body)) + b"WAVEfmt " + struct.pack("<IHHIIHH", 16, 1, 8, 16000, 256000, 16, 16))
+sys.stdout.buffer.write(b"data" + struct.pack("<I", len(body)) + body)
+EIGHT
+strip 30 160 >"$room/thirty.strip"
+run "$room/thirty.strip" <"$room/one" >"$room/one.out" 2>/dev/null
+run "$room/thirty.strip" <"$room/eight" >"$room/eight.out" 2>/dev/null
+same "recording: eight channels with one sound are levelled as one channel is" "yes" "$(python3 - "$room/one.out" "$room/eight.out" <<'EIGHT'
+import sys
+one, eight = (open(name, "rb").read()[44:] for name in sys.argv[1:])
+print("yes" if len(one) == 9600 and any(one) and eight == b"".join(one[i : i + 2] * 8 for i in range(0, len(one), 2)) else "no")
+EIGHT
+)"
+
+# Silence in gives silence out.
+run "$room/480.strip" < <(wav --samples 4800 --loud 0) >"$room/got" 2>"$room/err"
+same "recording: silence in gives silence out" "9600 bytes, 0 of them not 0" \
+    "$(body "$room/got" | wc -c) bytes, $(body "$room/got" | tr -d '\0' | wc -c) of them not 0"
+
+# Two minutes of sound, 12,000 frames of 40 samples: it tells each minute, and the memory that it has used is the same
+# at the end as after a second.
+strip 12000 40 >"$room/long.strip"
+wav --rate 4000 --samples 480000 --loud 3000 >"$room/long.wav"
+used() { sed -n 's/^VmHWM:[^0-9]*\([0-9]*\) kB/\1/p' "/proc/$program/status"; }
+mkfifo "$room/in"
+tests/run-program recording "$room/long.strip" <"$room/in" >"$room/got" 2>"$room/err" &
+program=$!
+exec 3>"$room/in"
+# The memory that is used once so many bytes are written.
+used_at() { # BYTES
+    for ((i = 0; i < 600; i++)); do
+        if [ "$(wc -c <"$room/got")" -ge "$1" ]; then
+            used
+            return
+        fi
+        sleep 0.05
+    done
+}
+head -c 8044 "$room/long.wav" >&3
+before=$(used_at 8044)
+head -c 959964 "$room/long.wav" | tail -c +8045 >&3
+after=$(used_at 959964)
+tail -c 80 "$room/long.wav" >&3
+exec 3>&-
+wait "$program"
+same "recording: two minutes end with status 0" 0 $?
+same "recording: two minutes are told one by one" "recording: 1 min recording: 2 min" "$(paste -sd' ' "$room/err")"
+same "recording: two minutes: every byte" 960044 "$(wc -c <"$room/got")"
+if [ -n "$before" ] && [ -n "$after" ] && [ "$after" -le $((before + 500)) ]; then
+    echo "ok recording: two minutes take no more memory than a second ($before kB, $after kB)"
+else
+    echo "not ok recording: two minutes take no more memory than a second ($before kB, $after kB)"
+fi
+
+# As a volunteer runs it.
+status() { "$@" >/dev/null 2>&1; echo $?; }
+./level recording "$room/480.strip" <"$good" >"$room/got" 2>"$room/err"
+same "recording: ./level ends with status 0" 0 $?
+same_file "recording: ./level recording" "$due" "$room/got"
+(cd "$room" && "$OLDPWD/level" recording 480.strip <good.wav >got 2>/dev/null)
+same_file "recording: ./level recording from another folder" "$due" "$room/got"
+./level recording "$room/long.strip" <"$room/long.wav" >/dev/null 2>"$room/err"
+same "recording: ./level ends with status 0 where only minutes are told" "0 recording: 1 min recording: 2 min" "$? $(paste -sd' ' "$room/err")"
+same "recording: ./level ends with status 1 where the recording is cut" 1 "$(status ./level recording "$room/480.strip" <"$room/cut.wav")"
+same "recording: ./level ends with status 1 where there is no such strip" 1 "$(status ./level recording "$room/nothing" <"$good")"
+same "recording: ./level ends with status 1 where the strip is too long" 1 "$(status ./level recording "$room/long.strip" < <(wav --rate 4000))"
+same "recording: ./level ends with status 2 without a strip" 2 "$(status ./level recording)"
+./level recording "$room/480.strip" <"$good" >/dev/full 2>"$room/err"
+same "recording: a full disk" "1 recording: standard output: No space left on device" "$? $(cat "$room/err")"
+./level recording "$room/480.strip" <"$good" >&- 2>/dev/null
+same "recording: ./level ends with status 1 where there is no standard output" 1 $?
+./level recording "$room/long.strip" <"$room/long.wav" 2>"$room/err" | head -c 0
+same "recording: a reader that is gone" "1 recording: standard output: Broken pipe" "${PIPESTATUS[0]} $(cat "$room/err")"
+
+# The meter. A tone at half of full scale has its peak at -6.02 dBFS and its rms at -9.03; silence is at -90.
+python3 - >"$room/tone.wav" <<'TONE'
+import math, struct, sys
+sound = [0] * 480 + [round(16384 * math.sin(math.pi * i / 24)) for i in range(480)] + [0] * 100
+body = struct.pack(f"<{len(sound)}h", *sound)
+sys.stdout.buffer.write(b"RIFF" + struct.pack("<I", 36 + len(body)) + b"WAVEfmt " + struct.pack("<IHHIIHH", 16, 1, 1, 48000, 96000, 2, 16))
+sys.stdout.buffer.write(b"data" + struct.pack("<I", len(body)) + body)
+TONE
+cat >"$room/lines" <<'LINES'
+head threshold 12 samples 480
+# probability rms peak noise envelope
+0.05 -90.00 -90.00 -90.00 -90.00
+0.95 -9.03 -6.02 -90.00 -6.02
+0.05 -90.00 -90.00 -90.00 -90.00
+LINES
+tools/meter <"$room/tone.wav" >"$room/got"
+same_file "meter: silence, a tone, and a short frame of silence" "$room/lines" "$room/got"
+same "meter: a level above which it is speech, noise and envelope that are held, a threshold" \
+    "head threshold 7 samples 480 0.05 -90.00 -90.00 -70.00 -30.00 0.05 -9.03 -6.02 -70.00 -30.00" \
+    "$(tools/meter --speech-above -9 --noise -70 --envelope -30 --threshold 7 <"$room/tone.wav" | grep -v '^#' | head -n 3 | paste -sd' ')"
+same "meter: what it prints makes a strip, with a record for each frame, that levels the recording" "0" \
+    "$(tools/meter <crates/recording/stdin | tools/strip-maker to-strip >"$room/metered"; status ./level recording "$room/metered" <crates/recording/stdin)"
+tools/meter <README.md >"$room/got" 2>"$room/err"
+same "meter: a text is no recording" "1 meter: not a WAV file" "$? $(cat "$room/err")"
+
+# The cough.
+examples/cough >"$room/said" 2>"$room/err"
+same "cough: one of 80 ms leaves every other sample as it is, and one of 200 ms does not" 0 $?
+cat "$room/said"
