@@ -3,6 +3,11 @@
 //! writes the same digests. docs/SPEED.md says what is counted.
 //!
 //! A part that is added has a function here, a line in `work`, and its twin in crates/speed.
+//!
+//! Compiled with `--cfg library` it is the driver of the library to link (library/rust): the same loops, over the chain
+//! and the limiter of libmurzicanu.a, as a box has them.
+
+#![cfg_attr(library, allow(dead_code))]
 
 use sonora_ruled::adaptive_digital_gain_controller::{AdaptiveDigitalGainController, FrameInfo};
 use sonora_ruled::fixed_digital_level_estimator::FixedDigitalLevelEstimator;
@@ -260,6 +265,43 @@ fn level(frame: &mut Frame, ask: &Ask) -> u32 {
     mix(mix(d, estimator.level_dbfs()), protector.headroom_db())
 }
 
+/// The library, over a frame whose channels stand one after the other in one piece.
+#[cfg(library)]
+mod library {
+    use super::{mix, nothing, over_frames, Ask, Figures, Frame, THRESHOLD};
+
+    fn limit(frame: &mut Frame, ask: &Ask) -> u32 {
+        let mut limiter = murzicanu::Limiter::new(ask.samples).unwrap();
+        let d = over_frames(frame, ask, |frame, _| limiter.step(&mut frame[0], ask.channels).unwrap());
+        mix(d, limiter.level().unwrap())
+    }
+
+    fn level(frame: &mut Frame, ask: &Ask) -> u32 {
+        let settings = murzicanu::Settings::default();
+        let mut chain = murzicanu::Chain::new(&settings, THRESHOLD as u32, ask.samples).unwrap();
+        let d = over_frames(frame, ask, |frame, given| {
+            let Figures { probability, rms, peak, noise, envelope } = given.figures;
+            let figures = murzicanu::Figures { probability, rms, peak, noise, envelope };
+            chain.step(&figures, &mut frame[0], ask.channels).unwrap();
+        });
+        let now = chain.published().unwrap();
+        mix(mix(d, now.level), now.headroom)
+    }
+
+    pub(super) fn work(frame: &mut Frame, ask: &Ask) -> u32 {
+        match ask.part {
+            0 => nothing(frame, ask),
+            10 => limit(frame, ask),
+            11 => level(frame, ask),
+            _ => panic!("the library has no part {}", ask.part),
+        }
+    }
+}
+
+#[cfg(library)]
+use library::work;
+
+#[cfg(not(library))]
 fn work(frame: &mut Frame, ask: &Ask) -> u32 {
     match ask.part {
         1 => hear(frame, ask),
@@ -279,7 +321,11 @@ fn work(frame: &mut Frame, ask: &Ask) -> u32 {
 
 /// What the part that is asked for makes, the last frame included.
 fn run(ask: &Ask) -> u32 {
-    let mut frame = vec![vec![0.0; ask.samples]; ask.channels];
+    let mut frame = if cfg!(library) {
+        vec![vec![0.0; ask.samples * ask.channels]]
+    } else {
+        vec![vec![0.0; ask.samples]; ask.channels]
+    };
     let d = work(&mut frame, ask);
     digest(d, &frame)
 }
