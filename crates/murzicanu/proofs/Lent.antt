@@ -4,7 +4,7 @@
 --     looks-whole, shuts-whole       a `&` is looked into, and shut. It is given up too
 --     answers      a call has answered, and the machine value of its answer is written out
 --     frees-at     a local that still holds something is freed
---     beside, both, told      the facts of an `ensures`
+--     also, last   the facts of an `ensures`, one by one.        beside     which need nothing, and can be put beside what is had at exit
 -- Assumes `Given`.
 use mathlib.Core.Path.{_≡_, sym, _∙_, ap, subst}
 use Prim.Native.Nat.{ℕ, zero}
@@ -20,7 +20,7 @@ use base.Fml.{Lft, GName, Share, fobs, fauth, fres, fobor, flft, fat, fdies}
 use prog.Wp.{Heap, Env, Calls, Loops}
 use ghost.Atoms.{Atoms}
 use contract.Monad.{fact, factI}
-use types.Kit.{Given, Item, Goal, Soaks, Post, Seq, Step, step, lands, frees, ‵, mean, ⋆, nth, del, pull, _$_, move, drop, use1, fsplit3}
+use types.Kit.{Given, Item, Goal, Soaks, Post, Seq, Step, step, prop, lands, frees, ‵, mean, ⋆, nth, del, pull, _$_, move, drop, use1, fsplit3}
 use types.SemTy.{Body}
 use denote.RattleType.{RattleType}
 use denote.Laws.{Is, Tells, Typed, Lawful, Makes, Copy, shows}
@@ -68,17 +68,6 @@ float = record {
   makes = λ 𝓤 H A W. float-makes 𝓤 H A W binary32;
   copies = λ 𝓤 H A W. float-copy 𝓤 H A W binary32;
 }
-
--- what needs nothing can be put beside anything; a fact needs nothing, and what need nothing need nothing together
-module _ {M : Type 1} (𝓤 : URA M) where
-  pub beside : (P Q : SProp 𝓤) → ent 𝓤 (emp 𝓤) Q → ent 𝓤 P (sep 𝓤 P Q)
-  beside P Q h = via 𝓤 (sep 𝓤 (emp 𝓤) P) (emp∗ 𝓤 P) (via 𝓤 (sep 𝓤 Q P) (monoL 𝓤 P h) (comm∗ 𝓤 Q P))
-
-  pub both : (P Q : SProp 𝓤) → ent 𝓤 (emp 𝓤) P → ent 𝓤 (emp 𝓤) Q → ent 𝓤 (emp 𝓤) (sep 𝓤 P Q)
-  both P Q g h = via 𝓤 P g (beside P Q h)
-
-  pub told : (φ : Type 0) → φ → ent 𝓤 (emp 𝓤) (fact 𝓤 φ)
-  told φ x = factI 𝓤 φ (emp 𝓤) x
 
 pub typed : {M : Type 1} {𝓤 : URA M} {H : Heap 𝓤} {A : Atoms 𝓤} (W : Given 𝓤 H A) {R : RattleType} (w : Whole R) (d : R .Denot) → Is R d (w .val d ∷ []) → Typed (R .mir) (w .val d ∷ [])
 typed {M} {𝓤} {H} {A} W w d is = w .lawful 𝓤 H A W .typed d (w .val d ∷ []) is
@@ -131,3 +120,14 @@ module _ {M : Type 1} {𝓤 : URA M} {H : Heap 𝓤} {A : Atoms 𝓤} {K : Type 
         (via 𝓤 (sep 𝓤 (sep 𝓤 (H .room τ b zero) (H .dies τ b)) (⋆ 𝓤 H A (del 𝓤 H A n (del 𝓤 H A n Γ)))) (assoc′ 𝓤 (H .room τ b zero) (H .dies τ b) (⋆ 𝓤 H A (del 𝓤 H A n (del 𝓤 H A n Γ))))
         (monoR 𝓤 (sep 𝓤 (H .room τ b zero) (H .dies τ b)) (s .prf)))));
   })
+
+  -- a goal ⌜φ⌝ ∗ Q: φ is shown, and Q is left; and the last fact
+  pub also : K → {φ : Type 0} {Q : SProp 𝓤} → φ → Step K W Γ (prop Q) Γ (prop (sep 𝓤 (fact 𝓤 φ) Q))
+  also t {φ} {Q} x = step (λ s. record { prf = via 𝓤 Q (s .prf) (via 𝓤 (sep 𝓤 (emp 𝓤) Q) (emp∗ 𝓤 Q) (monoL 𝓤 Q (factI 𝓤 φ (emp 𝓤) x))) })
+
+  pub last : K → {φ : Type 0} → φ → Seq K W Γ (prop (fact 𝓤 φ))
+  last t {φ} x = record { prf = factI 𝓤 φ (⋆ 𝓤 H A Γ) x }
+
+-- what needs nothing can be put beside anything
+pub beside : {M : Type 1} (𝓤 : URA M) (P Q : SProp 𝓤) → ent 𝓤 (emp 𝓤) Q → ent 𝓤 P (sep 𝓤 P Q)
+beside 𝓤 P Q h = via 𝓤 (sep 𝓤 (emp 𝓤) P) (emp∗ 𝓤 P) (via 𝓤 (sep 𝓤 Q P) (monoL 𝓤 P h) (comm∗ 𝓤 Q P))

@@ -29,7 +29,7 @@ use denote.Triple.Entry.{onEntry}
 use denote.Triple.Spec.{Meets, tripleOf}
 use denote.Triple.Statement.{Contract, Triple}
 use denote.Triple.Call.{calls-at}
-use denote.Triple.Clauses.{lasts}
+use denote.Triple.Clauses.{atExit, lasts}
 use denote.Triple.Table.{entered, cited}
 use denote.Triple.Walked.{Stays, stay-dropped, gave-ref, walkOf, AllGo, goes-dropped, goes-gave-ref, ends-at, walked, walk-meets}
 use denote.Exit.{yes}
@@ -44,7 +44,7 @@ use Rattle.kept.proofs.calls.make_chain as make
 use Rattle.kept.proofs.calls.make_chain.Symbol as make-def
 use Rattle.kept.proofs.calls.make_chain.Symbol.{name as #make}
 use Rattle.kept.proofs.calls.make_chain.Met as make-thm
-use Rattle.murzicanu.proofs.Lent.{beside, both, told, typed, opens-whole, closes-whole, looks-whole, shuts-whole, answers, frees-at}
+use Rattle.murzicanu.proofs.Lent.{also, last, beside, typed, opens-whole, closes-whole, looks-whole, shuts-whole, answers, frees-at}
 use Rattle.murzicanu.proofs.Values.{chain, settings, new-chain, new-chain-has, new-chain-in, new-chain-reply, new-chain-chain}
 use Rattle.murzicanu.proofs.murzicanu_chain_new.Key.{name as #murzicanu·murzicanu-chain-new}
 use Rattle.murzicanu.proofs.murzicanu_chain_new as f
@@ -82,12 +82,16 @@ module _ {M : Type 1} (𝓤 : URA M) (H : Heap 𝓤) (A : Atoms 𝓤) (W : Given
         qed W [] ∵ nothing ! $ owned ! usize (Is usize) (uint-makes 𝓤 H A W w64) n _ (refl, n-fits) $ fjoin ! $ owned ! u32 (Is u32) (uint-makes 𝓤 H A W w32) t _ (refl, t-fits) $ fjoin ! $
         owned ! S.the-row (Is S.the-row) (settings .makes 𝓤 H A W) (y .now) _ is $ fjoin ! $ nothing ! $ join ! $ frame ! $ done !
 
+    -- each clause, of what the call ensures
+    facts : (r : NewChain) → r ≡ chainMade (y .now) t n → ent 𝓤 (emp 𝓤) (f.clauses 𝓤 H A mem run κs a .ensures tt (r .reply) (atExit f.ended κs a (r .chain, (tt, (tt, (tt, tt))))))
+    facts r e = qed W [] ∵ also ! (ap (λ (u : NewChain). u .reply) e) $ last ! (ap (λ (u : NewChain). u .chain) e)
+
     exits : (r : NewChain) → r ≡ chainMade (y .now) t n → r .reply < 2 ^ 32
         → ent 𝓤 (⋆ 𝓤 H A (‵ (fres (x .name) (T.the-row .coded .code (r .chain))) ∷ ‵ (flft (κs .0) (qs .0)) ∷ ‵ (flft (κs .1 .0) (qs .1 .0)) ∷ [])) (Post (vint w32 (r .reply)))
     exits r e fits =
         qed W (‵ (fres (x .name) (T.the-row .coded .code (r .chain))) ∷ ‵ (flft (κs .0) (qs .0)) ∷ ‵ (flft (κs .1 .0) (qs .1 .0)) ∷ []) ∵
         suffices ! _ (ends-at 𝓤 H A f.ended stayed (f.clauses 𝓤 H A mem run) W ((κs, qs, bounds, a, vals), tt) (vint w32 (r .reply)) (r .reply) (r .chain, (tt, (tt, (tt, tt)))) (tt, (tt, (tt, (tt, tt))))) $
-        suffices ! _ (beside 𝓤 _ _ (both 𝓤 _ _ (told 𝓤 _ (ap (λ (u : NewChain). u .reply) e)) (told 𝓤 _ (ap (λ (u : NewChain). u .chain) e)))) $
+        suffices ! _ (beside 𝓤 _ _ (facts r e)) $
         nothing ! $ move ! (3 ∷ 0 ∷ []) $ join ! $ move ! (2 ∷ 0 ∷ []) $ join ! $ frame ! $ nothing ! $ nothing ! $ fjoin ! $ nothing ! $ fjoin ! $ nothing ! $ fjoin ! $ move ! (1 ∷ 0 ∷ []) $ fjoin ! $ frame ! $
         owned ! u32 (Is u32) (uint-makes 𝓤 H A W w32) (r .reply) _ (refl, fits) $ done !
 

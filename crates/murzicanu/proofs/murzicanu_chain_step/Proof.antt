@@ -30,7 +30,7 @@ use denote.Triple.Entry.{onEntry}
 use denote.Triple.Spec.{Meets, tripleOf}
 use denote.Triple.Statement.{Contract, Triple}
 use denote.Triple.Call.{calls-at}
-use denote.Triple.Clauses.{lasts}
+use denote.Triple.Clauses.{atExit, lasts}
 use denote.Triple.Table.{entered, cited}
 use denote.Triple.Walked.{Stays, stay-dropped, gave-ref, walkOf, AllGo, goes-dropped, goes-gave-ref, ends-at, walked, walk-meets, gave-slice, goes-gave-slice}
 use denote.Exit.{yes}
@@ -52,7 +52,7 @@ use Rattle.kept.proofs.calls.take_frame as step
 use Rattle.kept.proofs.calls.take_frame.Symbol as step-def
 use Rattle.kept.proofs.calls.take_frame.Symbol.{name as #step}
 use Rattle.kept.proofs.calls.take_frame.Met as step-thm
-use Rattle.murzicanu.proofs.Lent.{beside, both, told, typed, opens-whole, closes-whole, looks-whole, shuts-whole, answers, frees-at}
+use Rattle.murzicanu.proofs.Lent.{also, last, beside, typed, opens-whole, closes-whole, looks-whole, shuts-whole, answers, frees-at}
 use Rattle.murzicanu.proofs.Values.{chain, figures, answer, next-chain, next-chain-has, next-chain-in, next-chain-reply, next-chain-answer, next-chain-chain}
 use Rattle.murzicanu.proofs.murzicanu_chain_step.Key.{name as #murzicanu·murzicanu-chain-step}
 use Rattle.murzicanu.proofs.murzicanu_chain_step as f
@@ -115,13 +115,17 @@ module _ {M : Type 1} (𝓤 : URA M) (H : Heap 𝓤) (A : Atoms 𝓤) (W : Given
     abbrev Scaled : NextChain → List Float → Type 0
     Scaled r zs = r .reply ≡ replyDone → FullScale zs
 
+    -- each clause, of what the call ensures
+    facts : (r : NextChain) (zs : List Float) → Answers r → Leaves zs → Scaled r zs → ent 𝓤 (emp 𝓤) (f.clauses 𝓤 H A mem run κs a .ensures tt (r .reply) (atExit f.ended κs a (r .chain, (tt, (zs, (tt, (tt, (r .answer, tt))))))))
+    facts r zs e₁ e₂ e₃ = qed W [] ∵ also ! (ap (λ (u : NextChain). u .reply) e₁) $ also ! (ap (λ (u : NextChain). u .chain) e₁) $ also ! (ap (λ (u : NextChain). u .answer) e₁) $ also ! e₂ $ last ! e₃
+
     exits : (r : NextChain) (zs : List Float) → Answers r → Leaves zs → Scaled r zs → length zs ≡ length (y .now) → r .reply < 2 ^ 32
         → ent 𝓤 (⋆ 𝓤 H A (‵ (fres (z .name) (P.the-row .coded .code (r .answer))) ∷ ‵ (flft (κs .1 .1 .1 .0) (qs .1 .1 .1 .0)) ∷ ‵ (fres (x .name) (T.the-row .coded .code (r .chain))) ∷ ‵ (flft (κs .0) (qs .0)) ∷ (‵ (flft (κs .1 .1 .0) (qs .1 .1 .0)) ⊛ ‵ ftrue) ∷ ‵ (finally f32 (y .name) zs) ∷ ‵ (flft (κs .1 .0) (qs .1 .0)) ∷ []))
         (Post (vint w32 (r .reply)))
     exits r zs e₁ e₂ e₃ l fits =
         qed W (‵ (fres (z .name) (P.the-row .coded .code (r .answer))) ∷ ‵ (flft (κs .1 .1 .1 .0) (qs .1 .1 .1 .0)) ∷ ‵ (fres (x .name) (T.the-row .coded .code (r .chain))) ∷ ‵ (flft (κs .0) (qs .0)) ∷ (‵ (flft (κs .1 .1 .0) (qs .1 .1 .0)) ⊛ ‵ ftrue) ∷ ‵ (finally f32 (y .name) zs) ∷ ‵ (flft (κs .1 .0) (qs .1 .0)) ∷ []) ∵
         suffices ! _ (ends-at 𝓤 H A f.ended stayed (f.clauses 𝓤 H A mem run) W ((κs, qs, bounds, a, vals), tt) (vint w32 (r .reply)) (r .reply) (r .chain, (tt, (zs, (tt, (tt, (r .answer, tt)))))) (tt, (tt, (l, (tt, (tt, (tt, tt))))))) $
-        suffices ! _ (beside 𝓤 _ _ (both 𝓤 _ _ (told 𝓤 _ (ap (λ (u : NextChain). u .reply) e₁)) (both 𝓤 _ _ (told 𝓤 _ (ap (λ (u : NextChain). u .chain) e₁)) (both 𝓤 _ _ (told 𝓤 _ (ap (λ (u : NextChain). u .answer) e₁)) (both 𝓤 _ _ (told 𝓤 _ e₂) (told 𝓤 _ e₃)))))) $
+        suffices ! _ (beside 𝓤 _ _ (facts r zs e₁ e₂ e₃)) $
         -- the tokens, in their order; then the last values, in theirs
         move ! (4 ∷ []) $ split ! $ move ! (3 ∷ 1 ∷ []) $ join ! $ move ! (1 ∷ 0 ∷ []) $ join ! $ move ! (5 ∷ 0 ∷ []) $ join ! $ move ! (3 ∷ 0 ∷ []) $ join ! $ frame ! $
         nothing ! $ move ! (1 ∷ 0 ∷ []) $ fjoin ! $ nothing ! $ fjoin ! $ nothing ! $ fjoin ! $ move ! (2 ∷ 0 ∷ []) $ fjoin ! $ nothing ! $ fjoin ! $ move ! (1 ∷ 0 ∷ []) $ fjoin ! $ frame ! $

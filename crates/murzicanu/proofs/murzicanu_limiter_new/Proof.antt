@@ -30,7 +30,7 @@ use denote.Triple.Entry.{onEntry}
 use denote.Triple.Spec.{Meets, tripleOf}
 use denote.Triple.Statement.{Contract, Triple}
 use denote.Triple.Call.{calls-at}
-use denote.Triple.Clauses.{lasts}
+use denote.Triple.Clauses.{atExit, lasts}
 use denote.Triple.Table.{entered, cited}
 use denote.Triple.Walked.{Stays, stay-dropped, gave-ref, walkOf, AllGo, goes-dropped, goes-gave-ref, ends-at, walked, walk-meets}
 use denote.Exit.{yes}
@@ -43,7 +43,7 @@ use Rattle.kept.proofs.calls.make_limiter as make
 use Rattle.kept.proofs.calls.make_limiter.Symbol as make-def
 use Rattle.kept.proofs.calls.make_limiter.Symbol.{name as #make}
 use Rattle.kept.proofs.calls.make_limiter.Met as make-thm
-use Rattle.murzicanu.proofs.Lent.{beside, both, told, typed, opens-whole, closes-whole, answers, frees-at}
+use Rattle.murzicanu.proofs.Lent.{also, last, beside, typed, opens-whole, closes-whole, answers, frees-at}
 use Rattle.murzicanu.proofs.Values.{limiter, new-limiter, new-limiter-has}
 use Rattle.murzicanu.proofs.murzicanu_limiter_new.Key.{name as #murzicanu·murzicanu-limiter-new}
 use Rattle.murzicanu.proofs.murzicanu_limiter_new as f
@@ -76,11 +76,15 @@ module _ {M : Type 1} (𝓤 : URA M) (H : Heap 𝓤) (A : Atoms 𝓤) (W : Given
     asks : ent 𝓤 (emp 𝓤) (Make 𝓤 H A mem run .pre to-make)
     asks = qed W [] ∵ nothing ! $ owned ! usize (Is usize) (uint-makes 𝓤 H A W w64) n _ (refl, n-fits) $ fjoin ! $ nothing ! $ join ! $ frame ! $ done !
 
+    -- each clause, of what the call ensures
+    facts : (r : NewLimiter) → r ≡ limiterMade n → ent 𝓤 (emp 𝓤) (f.clauses 𝓤 H A mem run κs a .ensures tt (r .reply) (atExit f.ended κs a (r .limiter, (tt, tt))))
+    facts r e = qed W [] ∵ also ! (ap (λ (u : NewLimiter). u .reply) e) $ last ! (ap (λ (u : NewLimiter). u .limiter) e)
+
     exits : (r : NewLimiter) → r ≡ limiterMade n → r .reply < 2 ^ 32 → ent 𝓤 (⋆ 𝓤 H A (‵ (fres (x .name) (T.the-row .coded .code (r .limiter))) ∷ ‵ (flft (κs .0) (qs .0)) ∷ [])) (Post (vint w32 (r .reply)))
     exits r e fits =
         qed W (‵ (fres (x .name) (T.the-row .coded .code (r .limiter))) ∷ ‵ (flft (κs .0) (qs .0)) ∷ []) ∵
         suffices ! _ (ends-at 𝓤 H A f.ended stayed (f.clauses 𝓤 H A mem run) W ((κs, qs, bounds, a, vals), tt) (vint w32 (r .reply)) (r .reply) (r .limiter, (tt, tt)) (tt, (tt, tt))) $
-        suffices ! _ (beside 𝓤 _ _ (both 𝓤 _ _ (told 𝓤 _ (ap (λ (u : NewLimiter). u .reply) e)) (told 𝓤 _ (ap (λ (u : NewLimiter). u .limiter) e)))) $
+        suffices ! _ (beside 𝓤 _ _ (facts r e)) $
         nothing ! $ move ! (2 ∷ 0 ∷ []) $ join ! $ frame ! $ nothing ! $ nothing ! $ fjoin ! $ move ! (1 ∷ 0 ∷ []) $ fjoin ! $ frame ! $ owned ! u32 (Is u32) (uint-makes 𝓤 H A W w32) (r .reply) _ (refl, fits) $ done !
 
     walk : (C : Calls 𝓤 H) (Λ : Loops 𝓤 H) → FmC 𝓤 H (W .laws) C → Triple 𝓤 (C #make) (Make 𝓤 H A mem run) → ent 𝓤 (onEntry 𝓤 H A f.signature κs qs a vals) (WpFn 𝓤 H C Λ code.function (vptr (x .ptr .0) (x .ptr .1) ∷ vint w64 n ∷ []) Post)

@@ -30,7 +30,7 @@ use denote.Triple.Entry.{onEntry}
 use denote.Triple.Spec.{Meets, tripleOf}
 use denote.Triple.Statement.{Contract, Triple}
 use denote.Triple.Call.{calls-at}
-use denote.Triple.Clauses.{lasts}
+use denote.Triple.Clauses.{atExit, lasts}
 use denote.Triple.Table.{entered, cited}
 use denote.Triple.Walked.{Stays, stay-dropped, gave-ref, walkOf, AllGo, goes-dropped, goes-gave-ref, ends-at, walked, walk-meets}
 use denote.Exit.{yes}
@@ -44,7 +44,7 @@ use Rattle.kept.proofs.calls.read_limiter as read
 use Rattle.kept.proofs.calls.read_limiter.Symbol as read-def
 use Rattle.kept.proofs.calls.read_limiter.Symbol.{name as #read}
 use Rattle.kept.proofs.calls.read_limiter.Met as read-thm
-use Rattle.murzicanu.proofs.Lent.{beside, both, told, typed, opens-whole, closes-whole, looks-whole, shuts-whole, answers, frees-at, float}
+use Rattle.murzicanu.proofs.Lent.{also, last, beside, typed, opens-whole, closes-whole, looks-whole, shuts-whole, answers, frees-at, float}
 use Rattle.murzicanu.proofs.Values.{limiter, level-read, level-read-has}
 use Rattle.murzicanu.proofs.murzicanu_limiter_read.Key.{name as #murzicanu·murzicanu-limiter-read}
 use Rattle.murzicanu.proofs.murzicanu_limiter_read as f
@@ -77,12 +77,16 @@ module _ {M : Type 1} (𝓤 : URA M) (H : Heap 𝓤) (A : Atoms 𝓤) (W : Given
     asks : Is T.the-row (x .now) (limiter .val (x .now) ∷ []) → ent 𝓤 (emp 𝓤) (Read 𝓤 H A mem run .pre to-read)
     asks is = qed W [] ∵ nothing ! $ owned ! T.the-row (Is T.the-row) (limiter .makes 𝓤 H A W) (x .now) _ is $ fjoin ! $ nothing ! $ join ! $ frame ! $ done !
 
+    -- each clause, of what the call ensures
+    facts : (r : LevelRead) → r ≡ limiterRead (x .now) → ent 𝓤 (emp 𝓤) (f.clauses 𝓤 H A mem run κs a .ensures tt (r .reply) (atExit f.ended κs a (tt, (r .level, tt))))
+    facts r e = qed W [] ∵ also ! (ap (λ (u : LevelRead). u .reply) e) $ last ! (ap (λ (u : LevelRead). u .level) e)
+
     exits : (r : LevelRead) → r ≡ limiterRead (x .now) → r .reply < 2 ^ 32
         → ent 𝓤 (⋆ 𝓤 H A (‵ (fres (y .name) (f32 .coded .code (r .level))) ∷ ‵ (flft (κs .1 .0) (qs .1 .0)) ∷ ‵ (flft (κs .0) (qs .0)) ∷ [])) (Post (vint w32 (r .reply)))
     exits r e fits =
         qed W (‵ (fres (y .name) (f32 .coded .code (r .level))) ∷ ‵ (flft (κs .1 .0) (qs .1 .0)) ∷ ‵ (flft (κs .0) (qs .0)) ∷ []) ∵
         suffices ! _ (ends-at 𝓤 H A f.ended stayed (f.clauses 𝓤 H A mem run) W ((κs, qs, bounds, a, vals), tt) (vint w32 (r .reply)) (r .reply) (tt, (r .level, tt)) (tt, (tt, tt))) $
-        suffices ! _ (beside 𝓤 _ _ (both 𝓤 _ _ (told 𝓤 _ (ap (λ (u : LevelRead). u .reply) e)) (told 𝓤 _ (ap (λ (u : LevelRead). u .level) e)))) $
+        suffices ! _ (beside 𝓤 _ _ (facts r e)) $
         nothing ! $ move ! (2 ∷ 0 ∷ []) $ join ! $ move ! (2 ∷ 0 ∷ []) $ join ! $ frame ! $ nothing ! $ move ! (1 ∷ 0 ∷ []) $ fjoin ! $ nothing ! $ fjoin ! $ frame ! $ owned ! u32 (Is u32) (uint-makes 𝓤 H A W w32) (r .reply) _ (refl, fits) $ done !
 
     walk : (C : Calls 𝓤 H) (Λ : Loops 𝓤 H) → FmC 𝓤 H (W .laws) C → Triple 𝓤 (C #read) (Read 𝓤 H A mem run)

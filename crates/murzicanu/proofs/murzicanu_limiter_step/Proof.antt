@@ -30,7 +30,7 @@ use denote.Triple.Entry.{onEntry}
 use denote.Triple.Spec.{Meets, tripleOf}
 use denote.Triple.Statement.{Contract, Triple}
 use denote.Triple.Call.{calls-at}
-use denote.Triple.Clauses.{lasts}
+use denote.Triple.Clauses.{atExit, lasts}
 use denote.Triple.Table.{entered, cited}
 use denote.Triple.Walked.{Stays, stay-dropped, gave-ref, walkOf, AllGo, goes-dropped, goes-gave-ref, ends-at, walked, walk-meets, gave-slice, goes-gave-slice}
 use denote.Exit.{yes}
@@ -48,7 +48,7 @@ use Rattle.kept.proofs.calls.limit_frame as step
 use Rattle.kept.proofs.calls.limit_frame.Symbol as step-def
 use Rattle.kept.proofs.calls.limit_frame.Symbol.{name as #step}
 use Rattle.kept.proofs.calls.limit_frame.Met as step-thm
-use Rattle.murzicanu.proofs.Lent.{beside, both, told, typed, opens-whole, closes-whole, answers, frees-at}
+use Rattle.murzicanu.proofs.Lent.{also, last, beside, typed, opens-whole, closes-whole, answers, frees-at}
 use Rattle.murzicanu.proofs.Values.{limiter, new-limiter, new-limiter-has}
 use Rattle.murzicanu.proofs.murzicanu_limiter_step.Key.{name as #murzicanu·murzicanu-limiter-step}
 use Rattle.murzicanu.proofs.murzicanu_limiter_step as f
@@ -100,12 +100,16 @@ module _ {M : Type 1} (𝓤 : URA M) (H : Heap 𝓤) (A : Atoms 𝓤) (W : Given
     abbrev Scaled : NewLimiter → List Float → Type 0
     Scaled r zs = r .reply ≡ replyDone → FullScale zs
 
+    -- each clause, of what the call ensures
+    facts : (r : NewLimiter) (zs : List Float) → Answers r → Leaves zs → Scaled r zs → ent 𝓤 (emp 𝓤) (f.clauses 𝓤 H A mem run κs a .ensures tt (r .reply) (atExit f.ended κs a (r .limiter, (zs, (tt, (tt, tt))))))
+    facts r zs e₁ e₂ e₃ = qed W [] ∵ also ! (ap (λ (u : NewLimiter). u .reply) e₁) $ also ! (ap (λ (u : NewLimiter). u .limiter) e₁) $ also ! e₂ $ last ! e₃
+
     exits : (r : NewLimiter) (zs : List Float) → Answers r → Leaves zs → Scaled r zs → length zs ≡ length (y .now) → r .reply < 2 ^ 32
         → ent 𝓤 (⋆ 𝓤 H A (‵ (fres (x .name) (T.the-row .coded .code (r .limiter))) ∷ ‵ (flft (κs .0) (qs .0)) ∷ (‵ (flft (κs .1 .0) (qs .1 .0)) ⊛ ‵ ftrue) ∷ ‵ (finally f32 (y .name) zs) ∷ [])) (Post (vint w32 (r .reply)))
     exits r zs e₁ e₂ e₃ l fits =
         qed W (‵ (fres (x .name) (T.the-row .coded .code (r .limiter))) ∷ ‵ (flft (κs .0) (qs .0)) ∷ (‵ (flft (κs .1 .0) (qs .1 .0)) ⊛ ‵ ftrue) ∷ ‵ (finally f32 (y .name) zs) ∷ []) ∵
         suffices ! _ (ends-at 𝓤 H A f.ended stayed (f.clauses 𝓤 H A mem run) W ((κs, qs, bounds, a, vals), tt) (vint w32 (r .reply)) (r .reply) (r .limiter, (zs, (tt, (tt, tt)))) (tt, (l, (tt, (tt, tt))))) $
-        suffices ! _ (beside 𝓤 _ _ (both 𝓤 _ _ (told 𝓤 _ (ap (λ (u : NewLimiter). u .reply) e₁)) (both 𝓤 _ _ (told 𝓤 _ (ap (λ (u : NewLimiter). u .limiter) e₁)) (both 𝓤 _ _ (told 𝓤 _ e₂) (told 𝓤 _ e₃))))) $
+        suffices ! _ (beside 𝓤 _ _ (facts r zs e₁ e₂ e₃)) $
         move ! (1 ∷ 2 ∷ []) $ join ! $ frame ! $ nothing ! $ nothing ! $ fjoin ! $ nothing ! $ fjoin ! $ move ! (2 ∷ 0 ∷ []) $ fjoin ! $ move ! (1 ∷ 0 ∷ []) $ fjoin ! $ frame ! $
         owned ! u32 (Is u32) (uint-makes 𝓤 H A W w32) (r .reply) _ (refl, fits) $ done !
 
