@@ -54,7 +54,7 @@ fn is_close_to_one(gain: f32) -> bool
 }
 
 // Multiplies each sample of a part by the gain.
-fn scale(part: &mut [f32], gain: f32)
+fn scale_some(part: &mut [f32], gain: f32)
     ensures { λ _. ⌜ now (part .exit) ≡ scaled gain (now (part .entry)) ⌝ }
 {
     let mut i = 0;
@@ -62,6 +62,19 @@ fn scale(part: &mut [f32], gain: f32)
         part[i] = part[i] * gain;
         i += 1;
     }
+}
+
+// Multiplies each sample of a part by the gain: block after block, and then what is left.
+fn scale(part: &mut [f32], gain: f32)
+    ensures { λ _. ⌜ now (part .exit) ≡ scaled gain (now (part .entry)) ⌝ }
+{
+    let mut at = 0;
+    while BLOCK <= part.len() - at {
+        let to = at + BLOCK;
+        scale_some(&mut part[at..to], gain);
+        at = to;
+    }
+    scale_some(&mut part[at..], gain);
 }
 
 // Fills with gains, each one step after the one before, and answers the next.
@@ -120,7 +133,7 @@ fn multiply(part: &mut [f32], gains: &[f32])
 }
 
 // Brings each sample of a part between the ends of 16 bits.
-fn clip_part(part: &mut [f32])
+fn clip_some(part: &mut [f32])
     ensures { λ _. ⌜ now (part .exit) ≡ clipped (now (part .entry)) ⌝ }
 {
     let mut i = 0;
@@ -128,6 +141,19 @@ fn clip_part(part: &mut [f32])
         part[i] = floats::clamp(part[i], LOWEST, HIGHEST);
         i += 1;
     }
+}
+
+// Brings each sample of a part between the ends of 16 bits: block after block, and then what is left.
+fn clip_part(part: &mut [f32])
+    ensures { λ _. ⌜ now (part .exit) ≡ clipped (now (part .entry)) ⌝ }
+{
+    let mut at = 0;
+    while BLOCK <= part.len() - at {
+        let to = at + BLOCK;
+        clip_some(&mut part[at..to]);
+        at = to;
+    }
+    clip_some(&mut part[at..]);
 }
 
 // Clips a frame if that is set.

@@ -1,63 +1,77 @@
--- `gain_applier::clip_part` meets its contract. The invariant: what is done, then the definition on what is left. Assumes nothing.
-use mathlib.Core.Path.{_≡_, refl, sym, _∙_}
-use mathlib.Core.List.{List, _++_}
-use Prim.Native.Nat.{_+_, _-_, _≤_}
-use lib.ListN.{length, take, drop, length-set}
-use lib.Ieee.{nan}
-use Rattle.lists.specs.Loops.{in-place, in-place-done}
+-- `gain_applier::clip_part` meets its contract, by the laws of what is done in blocks. Assumes nothing.
+use mathlib.Core.List.{[]}
+use Prim.Native.Nat.{_-_}
+use lib.ListN.{length}
 use Rattle.gain_applier.specs.Sound.{clipped}
+use Rattle.gain_applier.specs.Laws.Blocks.{Blocks, blocks-begin, blocks-go-on, blocks-end, alone, clipped-split}
 use borrow.Author.Needs.{needs}
 use native.Mathlib.Omega.{arith}
 use Rattle.gain_applier.proofs.clip_part.Statement.{statement}
 use Rattle.gain_applier.proofs.clip_part.Tie as tie
 
 abbrev Inv-loop : tie.InvT-loop
-Inv-loop part₀ i₀ part i = (length part ≡ length part₀) × (i ≤ length part) × (take i part ++ clipped (drop i part) ≡ clipped part₀)
+Inv-loop part₀ at₀ part at = Blocks (alone clipped) [] part₀ part at
 
 abbrev μ-loop : tie.MeasureT-loop
-μ-loop part₀ i₀ part i = length part - i
+μ-loop part₀ at₀ part at = length part - at
 
 loop-holds : tie.Need-loop-holds Inv-loop μ-loop
-loop-holds c = (refl, omega arith, refl)
+loop-holds c = blocks-begin
 
-mul-clamp : tie.Need-mul-clamp Inv-loop μ-loop
-mul-clamp c = search needs
+sub-loop : tie.Need-sub-loop Inv-loop μ-loop
+sub-loop c = search needs
 
-slice-read-clamp : tie.Need-slice-read-clamp Inv-loop μ-loop
-slice-read-clamp c = search needs
+add-to : tie.Need-add-to Inv-loop μ-loop
+add-to c = search needs
 
-clamp-requires : tie.Need-clamp-requires Inv-loop μ-loop
-clamp-requires c κs = search needs
+mul-clip-some : tie.Need-mul-clip-some Inv-loop μ-loop
+mul-clip-some c = search needs
 
-mul-part : tie.Need-mul-part Inv-loop μ-loop
-mul-part c = search needs
+sub-clip-some : tie.Need-sub-clip-some Inv-loop μ-loop
+sub-clip-some c = search needs
 
-slice-write-part : tie.Need-slice-write-part Inv-loop μ-loop
-slice-write-part c = search needs
+part-clip-some-start : tie.Need-part-clip-some-start Inv-loop μ-loop
+part-clip-some-start c = search needs
 
-add-i : tie.Need-add-i Inv-loop μ-loop
-add-i c = search needs
+part-clip-some-end : tie.Need-part-clip-some-end Inv-loop μ-loop
+part-clip-some-end c = search needs
 
-loop-less : tie.Need-loop-less Inv-loop μ-loop
-loop-less c = simp length-set (omega arith)
+clip-some-requires : tie.Need-clip-some-requires Inv-loop μ-loop
+clip-some-requires c κs = search needs
 
 loop-again : tie.Need-loop-again Inv-loop μ-loop
-unfolding clipped
 loop-again c =
-    let loop = c .before .before .before .loop in (
-      simp length-set (loop .inv .0),
-      simp length-set (omega arith),
-      in-place clipped clipped (loop .part) (loop .i) nan _ (omega arith) (rw (c .clamp .ensures)) ∙ loop .inv .2,
-    )
+    let loop = c .before .before .before .before .before .loop in
+    let made = c .before .before .clip-some in
+    blocks-go-on clipped-split (loop .inv) 48 (omega arith) (made .ensures) (made .kept .0)
+
+loop-less : tie.Need-loop-less Inv-loop μ-loop
+loop-less c = omega (arith, loop-again c .same)
+
+mul-clip-some-2 : tie.Need-mul-clip-some-2 Inv-loop μ-loop
+mul-clip-some-2 c = search needs
+
+sub-clip-some-2 : tie.Need-sub-clip-some-2 Inv-loop μ-loop
+sub-clip-some-2 c = search needs
+
+part-clip-some-start-2 : tie.Need-part-clip-some-start-2 Inv-loop μ-loop
+part-clip-some-start-2 c = search needs
+
+part-clip-some-end-2 : tie.Need-part-clip-some-end-2 Inv-loop μ-loop
+part-clip-some-end-2 c = search needs
+
+clip-some-requires-2 : tie.Need-clip-some-requires-2 Inv-loop μ-loop
+clip-some-requires-2 c κs = search needs
 
 same-length : tie.Need-same-length Inv-loop μ-loop
-same-length c = c .before .loop .inv .0
+same-length c =
+    let made = c .before .before .clip-some2 in
+    blocks-end clipped-split (c .before .before .before .before .before .loop .inv) (made .ensures) (made .kept .0) .0
 
 returns : tie.Need-returns Inv-loop μ-loop
-unfolding clipped
 returns c =
-    let loop = c .before .loop in
-    sym (in-place-done clipped (loop .part) (loop .i) (omega arith) refl) ∙ loop .inv .2
+    let made = c .before .before .clip-some2 in
+    blocks-end clipped-split (c .before .before .before .before .before .loop .inv) (made .ensures) (made .kept .0) .1
 
 pub clip-part-spec : {M : Type 1} → statement M
 clip-part-spec =
@@ -66,13 +80,19 @@ clip-part-spec =
     Inv-loop
     μ-loop
     loop-holds
-    mul-clamp
-    slice-read-clamp
-    clamp-requires
-    mul-part
-    slice-write-part
-    add-i
+    sub-loop
+    add-to
+    mul-clip-some
+    sub-clip-some
+    part-clip-some-start
+    part-clip-some-end
+    clip-some-requires
     loop-less
     loop-again
+    mul-clip-some-2
+    sub-clip-some-2
+    part-clip-some-start-2
+    part-clip-some-end-2
+    clip-some-requires-2
     same-length
     returns)

@@ -1,4 +1,6 @@
 -- `gain_applier::finish` meets its contract. Assumes nothing.
+use mathlib.Core.Path.{_≡_}
+use mathlib.Core.Bool.{true, false}
 use Rattle.gain_applier.specs.Sound.{finished}
 use borrow.Author.Needs.{needs}
 use Rattle.gain_applier.proofs.finish.Statement.{statement}
@@ -12,11 +14,16 @@ same-length c = search needs
 
 returns : tie.Need-returns
 unfolding finished
-returns c = rw (c .before .before .before .before .if1 .taken) (c .before .before .clip-part .ensures)
+returns c =
+    let at-test = c .before .before .before .before in
+    let set : at-test .before .before .args .clip ≡ true = at-test .if1 .taken in
+    rw set (c .before .before .clip-part .ensures)
 
 returns-2 : tie.Need-returns-2
 unfolding finished
-returns-2 c = rw (c .if1 .left)
+returns-2 c =
+    let unset : c .before .before .args .clip ≡ false = c .if1 .left in
+    rw unset
 
 pub finish-spec : {M : Type 1} → statement M
 finish-spec = tie.close (tie.spec clip-part-requires same-length returns returns-2)

@@ -1,24 +1,22 @@
--- `gain_applier::multiply` meets its contract. The invariant: what is done, then the definition on what is left, by the gains that are left. Assumes nothing.
-use mathlib.Core.Path.{_≡_, refl, sym, ap, ap₂, _∙_}
-use mathlib.Core.List.{List, _++_}
-use Prim.Native.Nat.{ℕ, _+_, _-_, _≤_, _<_}
-use lib.Ieee.{Float}
-use lib.ListN.{length, take, drop, length-take, length-drop}
-use Rattle.frames.specs.Walk.{block-length, block-last, beside-goes-on, beside-ends}
+-- `gain_applier::multiply` meets its contract, by the laws of what is done in blocks. Assumes nothing.
+use Prim.Native.Nat.{_-_}
+use lib.ListN.{length, length-drop}
+use Rattle.frames.specs.Walk.{block-last}
 use Rattle.gain_applier.specs.Gains.{multiplied, multiplied-split}
+use Rattle.gain_applier.specs.Laws.Blocks.{Blocks, blocks-begin, blocks-go-on, blocks-end}
 use borrow.Author.Needs.{needs}
 use native.Mathlib.Omega.{arith}
 use Rattle.gain_applier.proofs.multiply.Statement.{statement}
 use Rattle.gain_applier.proofs.multiply.Tie as tie
 
 abbrev Inv-loop : tie.InvT-loop
-Inv-loop part₀ gains at₀ part at = (length part ≡ length part₀) × (at ≤ length part) × (take at part ++ multiplied (drop at gains) (drop at part) ≡ multiplied gains part₀)
+Inv-loop part₀ gains at₀ part at = Blocks multiplied gains part₀ part at
 
 abbrev μ-loop : tie.MeasureT-loop
 μ-loop part₀ gains at₀ part at = length part - at
 
 loop-holds : tie.Need-loop-holds Inv-loop μ-loop
-loop-holds c = (refl, omega arith, refl)
+loop-holds c = blocks-begin
 
 sub-loop : tie.Need-sub-loop Inv-loop μ-loop
 sub-loop c = search needs
@@ -53,21 +51,14 @@ part-multiply-some-end-2 c = omega arith
 multiply-some-requires : tie.Need-multiply-some-requires Inv-loop μ-loop
 multiply-some-requires c κs = search needs
 
-loop-less : tie.Need-loop-less Inv-loop μ-loop
-loop-less c =
-    let loop = c .before .before .before .before .before .before .loop in
-    let same = block-length (loop .part) (c .before .before .multiply-some .last .0) (loop .at) (loop .at + 48 - loop .at) (omega arith) (c .before .before .multiply-some .kept .0) in
-    omega (arith, same)
-
 loop-again : tie.Need-loop-again Inv-loop μ-loop
 loop-again c =
     let loop = c .before .before .before .before .before .before .loop in
     let made = c .before .before .multiply-some in
-    let same = block-length (loop .part) (made .last .0) (loop .at) (loop .at + 48 - loop .at) (omega arith) (made .kept .0) in (
-      same ∙ loop .inv .0,
-      omega (arith, same),
-      beside-goes-on multiplied multiplied-split (c .before .before .before .before .before .before .before .before .before .args .gains .now) (loop .part) (made .last .0) (loop .at) 48 (omega arith) (made .ensures) (made .kept .0) ∙ loop .inv .2,
-    )
+    blocks-go-on multiplied-split (loop .inv) 48 (omega arith) (made .ensures) (made .kept .0)
+
+loop-less : tie.Need-loop-less Inv-loop μ-loop
+loop-less c = omega (arith, loop-again c .same)
 
 mul-multiply-some-3 : tie.Need-mul-multiply-some-3 Inv-loop μ-loop
 mul-multiply-some-3 c = search needs
@@ -102,15 +93,13 @@ multiply-some-requires-2 c κs =
 
 same-length : tie.Need-same-length Inv-loop μ-loop
 same-length c =
-    let loop = c .before .before .before .before .before .before .loop in
     let made = c .before .before .multiply-some2 in
-    block-length (loop .part) (made .last .0) (loop .at) (length (loop .part) - loop .at) (omega arith) (made .kept .0) ∙ loop .inv .0
+    blocks-end multiplied-split (c .before .before .before .before .before .before .loop .inv) (made .ensures) (made .kept .0) .0
 
 returns : tie.Need-returns Inv-loop μ-loop
 returns c =
-    let loop = c .before .before .before .before .before .before .loop in
     let made = c .before .before .multiply-some2 in
-    beside-ends multiplied multiplied-split (c .before .before .before .before .before .before .before .before .before .args .gains .now) (loop .part) (made .last .0) (loop .at) (made .ensures) ∙ loop .inv .2
+    blocks-end multiplied-split (c .before .before .before .before .before .before .loop .inv) (made .ensures) (made .kept .0) .1
 
 pub multiply-spec : {M : Type 1} → statement M
 multiply-spec =

@@ -1,61 +1,77 @@
--- `gain_applier::scale` meets its contract. The invariant: what is done, then the definition on what is left. Assumes nothing.
-use mathlib.Core.Path.{_≡_, refl, sym, _∙_}
-use mathlib.Core.List.{List, _++_}
-use Prim.Native.Nat.{_+_, _-_, _≤_}
-use lib.ListN.{length, take, drop, length-set}
-use lib.Ieee.{nan}
-use Rattle.lists.specs.Loops.{in-place, in-place-done}
+-- `gain_applier::scale` meets its contract, by the laws of what is done in blocks. Assumes nothing.
+use mathlib.Core.List.{[]}
+use Prim.Native.Nat.{_-_}
+use lib.ListN.{length}
 use Rattle.gain_applier.specs.Sound.{scaled}
+use Rattle.gain_applier.specs.Laws.Blocks.{Blocks, blocks-begin, blocks-go-on, blocks-end, alone, scaled-split}
 use borrow.Author.Needs.{needs}
 use native.Mathlib.Omega.{arith}
 use Rattle.gain_applier.proofs.scale.Statement.{statement}
 use Rattle.gain_applier.proofs.scale.Tie as tie
 
 abbrev Inv-loop : tie.InvT-loop
-Inv-loop part₀ gain i₀ part i = (length part ≡ length part₀) × (i ≤ length part) × (take i part ++ scaled gain (drop i part) ≡ scaled gain part₀)
+Inv-loop part₀ gain at₀ part at = Blocks (alone (scaled gain)) [] part₀ part at
 
 abbrev μ-loop : tie.MeasureT-loop
-μ-loop part₀ gain i₀ part i = length part - i
+μ-loop part₀ gain at₀ part at = length part - at
 
 loop-holds : tie.Need-loop-holds Inv-loop μ-loop
-loop-holds c = (refl, omega arith, refl)
+loop-holds c = blocks-begin
 
-mul-part : tie.Need-mul-part Inv-loop μ-loop
-mul-part c = search needs
+sub-loop : tie.Need-sub-loop Inv-loop μ-loop
+sub-loop c = search needs
 
-slice-read-part : tie.Need-slice-read-part Inv-loop μ-loop
-slice-read-part c = search needs
+add-to : tie.Need-add-to Inv-loop μ-loop
+add-to c = search needs
 
-mul-part-2 : tie.Need-mul-part-2 Inv-loop μ-loop
-mul-part-2 c = search needs
+mul-scale-some : tie.Need-mul-scale-some Inv-loop μ-loop
+mul-scale-some c = search needs
 
-slice-write-part : tie.Need-slice-write-part Inv-loop μ-loop
-slice-write-part c = search needs
+sub-scale-some : tie.Need-sub-scale-some Inv-loop μ-loop
+sub-scale-some c = search needs
 
-add-i : tie.Need-add-i Inv-loop μ-loop
-add-i c = search needs
+part-scale-some-start : tie.Need-part-scale-some-start Inv-loop μ-loop
+part-scale-some-start c = search needs
 
-loop-less : tie.Need-loop-less Inv-loop μ-loop
-loop-less c = simp length-set (omega arith)
+part-scale-some-end : tie.Need-part-scale-some-end Inv-loop μ-loop
+part-scale-some-end c = search needs
+
+scale-some-requires : tie.Need-scale-some-requires Inv-loop μ-loop
+scale-some-requires c κs = search needs
 
 loop-again : tie.Need-loop-again Inv-loop μ-loop
-unfolding scaled
 loop-again c =
-    let loop = c .before .before .loop in
-    let gain = c .before .before .before .args .gain in (
-      simp length-set (loop .inv .0),
-      simp length-set (omega arith),
-      in-place (scaled gain) (scaled gain) (loop .part) (loop .i) nan _ (omega arith) refl ∙ loop .inv .2,
-    )
+    let loop = c .before .before .before .before .before .loop in
+    let made = c .before .before .scale-some in
+    blocks-go-on (scaled-split (c .before .before .before .before .before .before .before .args .gain)) (loop .inv) 48 (omega arith) (made .ensures) (made .kept .0)
+
+loop-less : tie.Need-loop-less Inv-loop μ-loop
+loop-less c = omega (arith, loop-again c .same)
+
+mul-scale-some-2 : tie.Need-mul-scale-some-2 Inv-loop μ-loop
+mul-scale-some-2 c = search needs
+
+sub-scale-some-2 : tie.Need-sub-scale-some-2 Inv-loop μ-loop
+sub-scale-some-2 c = search needs
+
+part-scale-some-start-2 : tie.Need-part-scale-some-start-2 Inv-loop μ-loop
+part-scale-some-start-2 c = search needs
+
+part-scale-some-end-2 : tie.Need-part-scale-some-end-2 Inv-loop μ-loop
+part-scale-some-end-2 c = search needs
+
+scale-some-requires-2 : tie.Need-scale-some-requires-2 Inv-loop μ-loop
+scale-some-requires-2 c κs = search needs
 
 same-length : tie.Need-same-length Inv-loop μ-loop
-same-length c = c .before .loop .inv .0
+same-length c =
+    let made = c .before .before .scale-some2 in
+    blocks-end (scaled-split (c .before .before .before .before .before .before .before .args .gain)) (c .before .before .before .before .before .loop .inv) (made .ensures) (made .kept .0) .0
 
 returns : tie.Need-returns Inv-loop μ-loop
-unfolding scaled
 returns c =
-    let loop = c .before .loop in
-    sym (in-place-done (scaled (c .before .before .args .gain)) (loop .part) (loop .i) (omega arith) refl) ∙ loop .inv .2
+    let made = c .before .before .scale-some2 in
+    blocks-end (scaled-split (c .before .before .before .before .before .before .before .args .gain)) (c .before .before .before .before .before .loop .inv) (made .ensures) (made .kept .0) .1
 
 pub scale-spec : {M : Type 1} → statement M
 scale-spec =
@@ -64,12 +80,19 @@ scale-spec =
     Inv-loop
     μ-loop
     loop-holds
-    mul-part
-    slice-read-part
-    mul-part-2
-    slice-write-part
-    add-i
+    sub-loop
+    add-to
+    mul-scale-some
+    sub-scale-some
+    part-scale-some-start
+    part-scale-some-end
+    scale-some-requires
     loop-less
     loop-again
+    mul-scale-some-2
+    sub-scale-some-2
+    part-scale-some-start-2
+    part-scale-some-end-2
+    scale-some-requires-2
     same-length
     returns)
