@@ -1,4 +1,4 @@
--- A frame's shape, its samples, and the walk over its channels.
+-- A frame's shape, its samples, the walk over its channels, and what is done in blocks.
 pub mod Shape
 pub mod Samples
 pub mod Squares
@@ -6,3 +6,4 @@ pub mod Refusal
 pub mod Parts
 pub mod Facts
 pub mod Walk
+pub mod Blocks

@@ -1,10 +1,10 @@
 -- How the code does the ramp: its gains are the same for every channel, so they are written down once, and each sample is multiplied by its own.
--- Definitions, the law that this is the ramp, and how it goes in blocks. Assumes nothing.
-use mathlib.Core.Path.{_≡_, refl, ap, _∙_}
+-- Definitions, the law that this is the ramp, and that more gains follow some. Assumes nothing.
+use mathlib.Core.Path.{_≡_, refl, ap}
 use mathlib.Core.List.{List, [], _∷_, _++_}
 use Prim.Native.Nat.{ℕ, zero, suc, _+_}
 use native.Mathlib.Nat.{zero-add, suc-add}
-use lib.ListN.{length, take, drop, take-append-drop}
+use lib.ListN.{length}
 use lib.Ieee.{Float, binary32, add, mul}
 use Rattle.gain_applier.specs.Sound.{ramped}
 
@@ -35,16 +35,3 @@ pub gains-split : (n m : ℕ) (gain step : Float) → gainsFrom n gain step ++ g
 unfolding gainsFrom gainAfter
 gains-split zero m gain step = rw zero-add refl
 gains-split (suc n) m gain step = rw suc-add (ap (λ (r : List Float). gain ∷ r) (gains-split n m (add binary32 gain step) step))
-
-without-gains : (xs : List Float) → multiplied [] xs ≡ xs
-unfolding multiplied
-without-gains [] = refl
-without-gains (x ∷ xs) = refl
-
--- Some samples by their gains, and then the rest by theirs.
-pub multiplied-split : (n : ℕ) (gains xs : List Float) → multiplied (take n gains) (take n xs) ++ multiplied (drop n gains) (drop n xs) ≡ multiplied gains xs
-unfolding multiplied
-multiplied-split zero gains xs = refl
-multiplied-split (suc n) gains [] = refl
-multiplied-split (suc n) [] (x ∷ xs) = ap (λ (r : List Float). x ∷ (take n xs ++ r)) (without-gains (drop n xs)) ∙ ap (λ (r : List Float). x ∷ r) (take-append-drop n xs)
-multiplied-split (suc n) (gain ∷ gains) (x ∷ xs) = ap (λ (r : List Float). mul binary32 x gain ∷ r) (multiplied-split n gains xs)

@@ -3,7 +3,8 @@ use mathlib.Core.List.{[]}
 use Prim.Native.Nat.{_-_}
 use lib.ListN.{length}
 use Rattle.gain_applier.specs.Sound.{clipped}
-use Rattle.gain_applier.specs.Laws.Blocks.{Blocks, blocks-begin, blocks-go-on, blocks-end, alone, clipped-split}
+use Rattle.frames.specs.Blocks.{Blocks, blocks-begin, blocks-go-on, blocks-end, alone}
+use Rattle.gain_applier.specs.Laws.Blocks.{clipped-split}
 use borrow.Author.Needs.{needs}
 use native.Mathlib.Omega.{arith}
 use Rattle.gain_applier.proofs.clip_part.Statement.{statement}

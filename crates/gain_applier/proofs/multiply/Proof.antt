@@ -2,8 +2,9 @@
 use Prim.Native.Nat.{_-_}
 use lib.ListN.{length, length-drop}
 use Rattle.frames.specs.Walk.{block-last}
-use Rattle.gain_applier.specs.Gains.{multiplied, multiplied-split}
-use Rattle.gain_applier.specs.Laws.Blocks.{Blocks, blocks-begin, blocks-go-on, blocks-end}
+use Rattle.frames.specs.Blocks.{Blocks, blocks-begin, blocks-go-on, blocks-end}
+use Rattle.gain_applier.specs.Gains.{multiplied}
+use Rattle.gain_applier.specs.Laws.Blocks.{multiplied-split}
 use borrow.Author.Needs.{needs}
 use native.Mathlib.Omega.{arith}
 use Rattle.gain_applier.proofs.multiply.Statement.{statement}

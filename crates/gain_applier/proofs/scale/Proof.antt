@@ -3,7 +3,8 @@ use mathlib.Core.List.{[]}
 use Prim.Native.Nat.{_-_}
 use lib.ListN.{length}
 use Rattle.gain_applier.specs.Sound.{scaled}
-use Rattle.gain_applier.specs.Laws.Blocks.{Blocks, blocks-begin, blocks-go-on, blocks-end, alone, scaled-split}
+use Rattle.frames.specs.Blocks.{Blocks, blocks-begin, blocks-go-on, blocks-end, alone}
+use Rattle.gain_applier.specs.Laws.Blocks.{scaled-split}
 use borrow.Author.Needs.{needs}
 use native.Mathlib.Omega.{arith}
 use Rattle.gain_applier.proofs.scale.Statement.{statement}
