@@ -4,6 +4,7 @@ use mathlib.Core.Bool.{true}
 use mathlib.Core.Path.{_≡_}
 use lib.Dec.{T}
 use lib.Ieee.{Float, binary32, fits, ofBits}
+use lib.Ieee.Scale.{finite}
 use Rattle.rounding.specs.Units.{In}
 use Rattle.lists.specs.Each.{Each}
 use Rattle.limiter.specs.Limiter.{passes}
@@ -16,6 +17,10 @@ Fits16 x = In (ofBits binary32 0xc700_0000) (ofBits binary32 0x46ff_fe00) x
 -- each sample of a frame is
 abbrev pub FullScale : List Float → Type 0
 FullScale xs = Each Fits16 xs
+
+-- a sample or a factor that is no NaN and no infinity
+abbrev pub Finite : Float → Type 0
+Finite x = T (finite x)
 
 -- a factor from 0 to 2, which is where the gains and the carried factor lie
 abbrev pub Moderate : Float → Type 0

@@ -1,11 +1,11 @@
--- `limiter::limit` meets its contract. The invariant: what is done, then the definition on what is left, by the factors that are left. Assumes nothing.
-use mathlib.Core.Path.{_≡_, refl, sym, ap, ap₂, _∙_}
-use mathlib.Core.List.{List, _++_}
-use Prim.Native.Nat.{ℕ, _+_, _-_, _≤_, _<_}
-use lib.Ieee.{Float}
-use lib.ListN.{length, take, drop, length-take, length-drop}
-use Rattle.frames.specs.Walk.{block-length, block-last, beside-goes-on, beside-ends}
+-- `limiter::limit` meets its contract, by the laws of what is done in blocks. The invariant adds that what is left are numbers. Assumes nothing.
+use Prim.Native.Nat.{_+_, _-_}
+use lib.ListN.{length, drop, length-drop}
+use Rattle.frames.specs.Walk.{block-cut, block-last}
+use Rattle.frames.specs.Blocks.{Blocks, blocks-begin, blocks-go-on, blocks-end}
+use Rattle.lists.specs.Each.{Each, each-take, each-drop}
 use Rattle.limiter.specs.Factors.{limited}
+use Rattle.limiter.specs.Scale.{Finite}
 use Rattle.limiter.specs.Laws.Blocks.{limited-split}
 use borrow.Author.Needs.{needs}
 use native.Mathlib.Omega.{arith}
@@ -13,13 +13,13 @@ use Rattle.limiter.proofs.limit.Statement.{statement}
 use Rattle.limiter.proofs.limit.Tie as tie
 
 abbrev Inv-loop : tie.InvT-loop
-Inv-loop part₀ by at₀ part at = (length part ≡ length part₀) × (at ≤ length part) × (take at part ++ limited (drop at by) (drop at part) ≡ limited by part₀)
+Inv-loop part₀ by at₀ part at = Blocks limited by part₀ part at × Each Finite (drop at part)
 
 abbrev μ-loop : tie.MeasureT-loop
 μ-loop part₀ by at₀ part at = length part - at
 
 loop-holds : tie.Need-loop-holds Inv-loop μ-loop
-loop-holds c = (refl, omega arith, refl)
+loop-holds c = (blocks-begin, c .before .before .pre .2)
 
 sub-loop : tie.Need-sub-loop Inv-loop μ-loop
 sub-loop c = search needs
@@ -52,23 +52,22 @@ part-limit-some-end-2 : tie.Need-part-limit-some-end-2 Inv-loop μ-loop
 part-limit-some-end-2 c = omega arith
 
 limit-some-requires : tie.Need-limit-some-requires Inv-loop μ-loop
-limit-some-requires c κs = search needs
-
-loop-less : tie.Need-loop-less Inv-loop μ-loop
-loop-less c =
-    let loop = c .before .before .before .before .before .before .loop in
-    let same = block-length (loop .part) (c .before .before .limit-some .last .0) (loop .at) (loop .at + 48 - loop .at) (omega arith) (c .before .before .limit-some .kept .0) in
-    omega (arith, same)
+limit-some-requires c κs =
+    let loop = c .before .before .before .loop in
+    let start = c .before .before .before .before .before .before in
+    let size = loop .at + 48 - loop .at in
+    (search needs, each-take Finite size _ (each-drop Finite (loop .at) _ (start .pre .1)), each-take Finite size _ (loop .inv .1))
 
 loop-again : tie.Need-loop-again Inv-loop μ-loop
 loop-again c =
     let loop = c .before .before .before .before .before .before .loop in
-    let made = c .before .before .limit-some in
-    let same = block-length (loop .part) (made .last .0) (loop .at) (loop .at + 48 - loop .at) (omega arith) (made .kept .0) in (
-      same ∙ loop .inv .0,
-      omega (arith, same),
-      beside-goes-on limited limited-split (c .before .before .before .before .before .before .before .before .before .args .by .now) (loop .part) (made .last .0) (loop .at) 48 (omega arith) (made .ensures) (made .kept .0) ∙ loop .inv .2,
+    let made = c .before .before .limit-some in (
+      blocks-go-on limited-split (loop .inv .0) 48 (omega arith) (made .ensures) (made .kept .0),
+      rw (block-cut (loop .part) (made .last .0) (loop .at) 48 (omega arith) (made .kept .0) .1) (each-drop Finite 48 _ (loop .inv .1)),
     )
+
+loop-less : tie.Need-loop-less Inv-loop μ-loop
+loop-less c = omega (arith, loop-again c .0 .same)
 
 mul-limit-some-3 : tie.Need-mul-limit-some-3 Inv-loop μ-loop
 mul-limit-some-3 c = search needs
@@ -96,22 +95,23 @@ part-limit-some-end-4 c = search needs
 
 limit-some-requires-2 : tie.Need-limit-some-requires-2 Inv-loop μ-loop
 limit-some-requires-2 c κs =
-    let part = c .before .before .before .loop .part in
-    let by = c .before .before .before .before .before .before .args .by .now in
-    let at = c .before .before .before .loop .at in
-    rw (block-last part at, block-last by at, length-drop, length-drop) (omega arith)
+    let loop = c .before .before .before .loop in
+    let start = c .before .before .before .before .before .before in
+    let by = start .args .by .now in (
+      rw (block-last (loop .part) (loop .at), block-last by (loop .at), length-drop, length-drop) (omega arith),
+      each-take Finite (length by - loop .at) _ (each-drop Finite (loop .at) by (start .pre .1)),
+      each-take Finite (length (loop .part) - loop .at) _ (loop .inv .1),
+    )
 
 same-length : tie.Need-same-length Inv-loop μ-loop
 same-length c =
-    let loop = c .before .before .before .before .before .before .loop in
     let made = c .before .before .limit-some2 in
-    block-length (loop .part) (made .last .0) (loop .at) (length (loop .part) - loop .at) (omega arith) (made .kept .0) ∙ loop .inv .0
+    blocks-end limited-split (c .before .before .before .before .before .before .loop .inv .0) (made .ensures) (made .kept .0) .0
 
 returns : tie.Need-returns Inv-loop μ-loop
 returns c =
-    let loop = c .before .before .before .before .before .before .loop in
     let made = c .before .before .limit-some2 in
-    beside-ends limited limited-split (c .before .before .before .before .before .before .before .before .before .args .by .now) (loop .part) (made .last .0) (loop .at) (made .ensures) ∙ loop .inv .2
+    blocks-end limited-split (c .before .before .before .before .before .before .loop .inv .0) (made .ensures) (made .kept .0) .1
 
 pub limit-spec : {M : Type 1} → statement M
 limit-spec =

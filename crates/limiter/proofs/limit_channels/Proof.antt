@@ -1,25 +1,28 @@
--- `limiter::limit_channels` meets its contract, by the laws of the walk over what is done to a part. Assumes nothing.
+-- `limiter::limit_channels` meets its contract, by the laws of the walk over what is done to a part; and what is left of the frame are numbers. Assumes nothing.
+use Prim.Native.Nat.{_+_, _-_}
 use native.Mathlib.Omega.{arith}
-use lib.ListN.{length-take, length-drop}
-use Rattle.frames.specs.Walk.{Walking, walk-begins, walk-room, walk-goes-on, walk-ends}
+use lib.ListN.{drop, length-take, length-drop}
+use Rattle.frames.specs.Walk.{Walking, walk-begins, walk-room, walk-goes-on, walk-ends, block-cut}
+use Rattle.lists.specs.Each.{Each, each-take, each-drop}
 use Rattle.limiter.specs.Factors.{limited}
+use Rattle.limiter.specs.Scale.{Finite}
 use Rattle.limiter.proofs.limit_channels.Statement.{statement}
 use Rattle.limiter.proofs.limit_channels.Tie as tie
 
 abbrev Inv-loop : tie.InvT-loop
-Inv-loop frame₀ channels samples by start₀ left₀ frame start left = Walking (limited by) channels samples frame₀ frame start left
+Inv-loop frame₀ channels samples by start₀ left₀ frame start left = Walking (limited by) channels samples frame₀ frame start left × Each Finite (drop start frame)
 
 abbrev μ-loop : tie.MeasureT-loop
 μ-loop frame₀ channels samples by start₀ left₀ frame start left = left
 
 loop-holds : tie.Need-loop-holds Inv-loop μ-loop
-loop-holds c = walk-begins (c .before .before .pre .0)
+loop-holds c = (walk-begins (c .before .before .pre .0), c .before .before .pre .3)
 
 add-end : tie.Need-add-end Inv-loop μ-loop
-add-end c = omega (arith, walk-room (c .before .loop .inv) (c .loop-test .taken))
+add-end c = omega (arith, walk-room (c .before .loop .inv .0) (c .loop-test .taken))
 
 mul-limit : tie.Need-mul-limit Inv-loop μ-loop
-mul-limit c = omega (arith, walk-room (c .before .loop .inv) (c .loop-test .taken))
+mul-limit c = omega (arith, walk-room (c .before .loop .inv .0) (c .loop-test .taken))
 
 sub-limit : tie.Need-sub-limit Inv-loop μ-loop
 sub-limit c = omega arith
@@ -28,10 +31,13 @@ part-limit-start : tie.Need-part-limit-start Inv-loop μ-loop
 part-limit-start c = omega arith
 
 part-limit-end : tie.Need-part-limit-end Inv-loop μ-loop
-part-limit-end c = walk-room (c .before .loop .inv) (c .loop-test .taken)
+part-limit-end c = walk-room (c .before .loop .inv .0) (c .loop-test .taken)
 
 limit-requires : tie.Need-limit-requires Inv-loop μ-loop
-limit-requires c κs = simp (length-take, length-drop) (omega (arith, c .before .before .before .before .before .pre .1))
+limit-requires c κs =
+    let start = c .before .before .before .before .before in
+    let loop = c .before .before .loop in
+    (simp (length-take, length-drop) (omega (arith, start .pre .1)), start .pre .2, each-take Finite (loop .start + start .args .samples - loop .start) _ (loop .inv .1))
 
 sub-left : tie.Need-sub-left Inv-loop μ-loop
 sub-left c = omega arith
@@ -43,13 +49,18 @@ loop-again : tie.Need-loop-again Inv-loop μ-loop
 loop-again c =
     let at-test = c .before .before .before .before in
     let made = c .before .before .limit in
-    walk-goes-on (at-test .before .loop .inv) (at-test .loop-test .taken) (made .ensures) (made .kept .0)
+    let loop = at-test .before .loop in
+    let samples = at-test .before .before .before .before .args .samples in
+    let room = walk-room (loop .inv .0) (at-test .loop-test .taken) in (
+      walk-goes-on (loop .inv .0) (at-test .loop-test .taken) (made .ensures) (made .kept .0),
+      rw (block-cut (loop .frame) (made .last .0) (loop .start) samples room (made .kept .0) .1) (each-drop Finite samples _ (loop .inv .1)),
+    )
 
 same-length : tie.Need-same-length Inv-loop μ-loop
-same-length c = c .before .loop .inv .same
+same-length c = c .before .loop .inv .0 .same
 
 returns : tie.Need-returns Inv-loop μ-loop
-returns c = walk-ends (c .before .loop .inv) (c .loop-test .left)
+returns c = walk-ends (c .before .loop .inv .0) (c .loop-test .left)
 
 pub limit-channels-spec : {M : Type 1} → statement M
 limit-channels-spec =

@@ -1,4 +1,4 @@
--- Of a frame that is taken: every sample comes out between -32768 and 32767, and the state passes again, its carried factor above 0 and below 2.
+-- Of a frame that is taken: its factors and its samples are numbers, every sample comes out between -32768 and 32767, and the state passes again, its carried factor above 0 and below 2.
 use mathlib.Core.Path.{_≡_, refl, sym, ap, ap₂, _∙_, subst}
 use mathlib.Core.List.{List, [], _∷_}
 use mathlib.Core.Bool.{Bool, true, false, _&&_, _||_, cond}
@@ -8,7 +8,7 @@ use native.Mathlib.Omega.{arith}
 use borrow.Author.Tests.{eqb-true}
 use lib.Dec.{T, eqb, lit≤}
 use lib.ListN.{length, getD}
-use lib.Ieee.{Float, nan, binary32, ofBits, lt, le, fits}
+use lib.Ieee.{Float, nan, inf, fin, binary32, ofBits, lt, le, fits}
 use lib.Ieee.Bits.{is-true}
 use Rattle.rounding.specs.Units.{Number, In}
 use Rattle.rounding.specs.Laws.Exact.{constant-number}
@@ -18,6 +18,7 @@ use Rattle.units.specs.Figures.{curveLevel}
 use Rattle.frames.specs.Facts.{and-first, and-second, Taken, taken, not-refused, shape-facts}
 use Rattle.frames.specs.Refusal.{frameRefusal}
 use Rattle.frames.specs.Samples.{largestLevel}
+use Rattle.floats.specs.Kinds.{magnitude}
 use Rattle.floats.specs.Laws.Kinds.{passed}
 use Rattle.interpolated_gain_curve.specs.declared.Curve.{Curve}
 use Rattle.interpolated_gain_curve.specs.declared.Looked.{Looked}
@@ -25,7 +26,7 @@ use Rattle.interpolated_gain_curve.specs.Curve as C
 use Rattle.interpolated_gain_curve.specs.Laws.Passes.{accepts, still-passes}
 use Rattle.interpolated_gain_curve.specs.Laws.Range.{Gain, gain-in-range}
 use Rattle.fixed_digital_level_estimator.specs.Estimator as E
-use Rattle.lists.specs.Each.{Each, each-at}
+use Rattle.lists.specs.Each.{Each, each-at, each-so}
 use Rattle.fixed_digital_level_estimator.specs.Range.{Level, Sound, Held, Ready as EstimatorReady}
 use Rattle.fixed_digital_level_estimator.specs.declared.Levels.{Levels}
 use Rattle.fixed_digital_level_estimator.specs.Laws.Range.{samples-level, level-passes}
@@ -35,7 +36,7 @@ use Rattle.limiter.specs.declared.Limiter.{Limiter}
 use Rattle.limiter.specs.Limiter.{carriedFactor, passes, gainsOf, curveAfter, levelsOf, after, processed}
 use Rattle.limiter.specs.Factors.{factors, limited}
 use Rattle.frames.specs.Parts.{eachPart}
-use Rattle.limiter.specs.Scale.{FullScale, Moderate, Ready}
+use Rattle.limiter.specs.Scale.{FullScale, Finite, Moderate, Ready}
 use Rattle.limiter.specs.Laws.Numbers.{factor-numbers}
 use Rattle.limiter.specs.Laws.Taking.{Fine, fine, split}
 use Rattle.limiter.specs.Laws.FullScale.{factors-long, frame-scale}
@@ -99,6 +100,13 @@ carried-moderate x f h =
     let b = passed (and-second (lt nought x) (lt x two) h) in
     moderate x (between nought two x nought-number two-number f (lt→le nought x a) (lt→le x two b)) a b
 
+-- a sample whose magnitude is a number is one
+sample-finite : (x : Float) → Sound x → Finite x
+unfolding magnitude
+sample-finite nan h = h .number .real
+sample-finite (inf s) h = h .number .real
+sample-finite (fin s m e) h = tt
+
 -- ---- a frame that is taken
 module _ (l : Limiter) (frame : List Float) (channels samples : ℕ) (ready : Ready l) (held : Held frame)
     (taken-it : frameRefusal frame channels samples (eqb samples (l .estimator .samples)) (passes l) true largestLevel ≡ done) where
@@ -119,6 +127,18 @@ module _ (l : Limiter) (frame : List Float) (channels samples : ℕ) (ready : Re
   unfolding levelsOf
   twenty = gains-long (l .curve) (levelsOf l frame channels) ∙ envelope-length (l .estimator) channels frame
 
+  -- every factor is a number, and so is every sample
+  pub factors-finite : Each Finite (factors (l .estimator .part) (l .carried) (gainsOf (l .curve) (levelsOf l frame channels)))
+  factors-finite =
+      let f = facts in
+      let gs = gainsOf (l .curve) (levelsOf l frame channels) in
+      let carried = carried-moderate (l .carried) (ready .carried) (and-second (C.passes (l .curve)) (carriedFactor (l .carried)) two-parts) in
+      each-so Number Finite (λ (x : Float) (n : Number x). n .real) _
+      (factor-numbers (l .estimator .part) (le-trans (lit≤ tt) (f .some)) (f .small) (l .carried) gs carried (gains-moderate gs gains))
+
+  pub samples-finite : Each Finite frame
+  samples-finite = each-so Sound Finite sample-finite frame (samples-level frame held (facts .sound))
+
   -- every sample comes out between -32768 and 32767
   pub full-scale : FullScale (eachPart (limited (factors (l .estimator .part) (l .carried) (gainsOf (l .curve) (levelsOf l frame channels)))) channels samples frame)
   full-scale =
@@ -126,9 +146,7 @@ module _ (l : Limiter) (frame : List Float) (channels samples : ℕ) (ready : Re
       let gs = gainsOf (l .curve) (levelsOf l frame channels) in
       let p = l .estimator .part in
       let n = factors-long p (l .carried) gs in
-      frame-scale (factors p (l .carried) gs)
-      (factor-numbers p (le-trans (lit≤ tt) (f .some)) (f .small) (l .carried) gs (carried-moderate (l .carried) (ready .carried) (and-second (C.passes (l .curve)) (carriedFactor (l .carried)) two-parts)) (gains-moderate gs gains))
-      channels samples (room (length (factors p (l .carried) gs)) (length gs) p samples n twenty (f .parts)) frame (samples-level frame held (f .sound)) (f .long)
+      frame-scale (factors p (l .carried) gs) factors-finite channels samples (room (length (factors p (l .carried) gs)) (length gs) p samples n twenty (f .parts)) frame samples-finite (f .long)
     where
       room : (a n p s : ℕ) → a ≡ n * p → n ≡ 20 → s ≡ 20 * p → s ≤ a
       room a n p s i j k = subst (λ (z : ℕ). s ≤ z) (sym (i ∙ ap (λ (z : ℕ). z * p) j)) (le-of-eq k)

@@ -103,6 +103,14 @@ module _ (l : Limiter) (frame : List Float) (channels samples : ℕ) where
       few : (s n p : ℕ) → s ≡ n → p ≡ n / 20 → s ≤ 480 → p ≤ 24
       few s n p a b c = omega arith
 
+  -- the factors that the steps give
+  pub factors-are : (v : Levels) (gains by : List Float)
+      → v ≡ record { reply = done; estimator = E.heardUpTo (l .estimator) (levelsOf l frame channels); envelope = levelsOf l frame channels }
+      → gains ≡ gainsOf (l .curve) (v .envelope)
+      → by ≡ factors (l .estimator .part) (l .carried) gains
+      → by ≡ factors (l .estimator .part) (l .carried) (gainsOf (l .curve) (levelsOf l frame channels))
+  factors-are v gains by e g b = cc
+
   -- what each step gives, joined
   pub joined : (v : Levels) (gains : List Float) (curve : Curve) (by out : List Float)
       → v ≡ record { reply = done; estimator = E.heardUpTo (l .estimator) (levelsOf l frame channels); envelope = levelsOf l frame channels }

@@ -16,9 +16,11 @@ use Rattle.frames.specs.Refusal.{frameRefusal}
 use Rattle.fixed_digital_level_estimator.specs.declared.Levels.{Levels}
 use Rattle.limiter.specs.declared.Limiter.{Limiter}
 use Rattle.limiter.specs.Limiter.{passes, processed, after, levelsOf}
-use Rattle.limiter.specs.Scale.{FullScale, Ready}
+use Rattle.lists.specs.Each.{Each}
+use Rattle.limiter.specs.Scale.{FullScale, Finite, Ready}
 use Rattle.limiter.specs.Laws.States.{processed-full-scale}
-use Rattle.limiter.specs.Laws.Taking.{Fine, fine, reply-is, joined}
+use Rattle.limiter.specs.Laws.Taken.{factors-finite, samples-finite}
+use Rattle.limiter.specs.Laws.Taking.{Fine, fine, reply-is, factors-are, joined}
 use Rattle.limiter.proofs.Limiter.process.Statement.{statement}
 use Rattle.limiter.proofs.Limiter.process.Tie as tie
 
@@ -74,8 +76,19 @@ slice-aggregate-limit-channels c = sym (start-long (fine-at (c .before .before .
 
 limit-channels-requires : tie.Need-limit-channels-requires
 limit-channels-requires c κs =
-    let f = fine-at (c .before .before .before .before .before .before .before .before) in
-    (f .long, le-of-eq (sym (start-long (f .most) (c .before .before .channel-factors .result) (search needs))))
+    let t = c .before .before .before .before .before .before .before .before in
+    let f = fine-at t in
+    let s = start-of (t .before) in
+    let a = s .args in
+    let q = sym (told (t .before)) ∙ t .if1 .taken in
+    let ready = ready-at s (f .settings) in
+    let held = t .before .before .before .before .before .before .before .slice-known .given in
+    let by = factors-are (a .self) (a .frame .now) (a .channels) (a .samples) _ _ _ (t .before .before .compute-level .ensures ∙ f .found) (c .before .before .before .before .before .look-up .ensures .0) (c .before .before .channel-factors .ensures) in (
+      f .long,
+      le-of-eq (sym (start-long (f .most) (c .before .before .channel-factors .result) (search needs))),
+      subst (Each Finite) (sym by) (factors-finite (a .self) (a .frame .now) (a .channels) (a .samples) ready held q),
+      samples-finite (a .self) (a .frame .now) (a .channels) (a .samples) ready held q,
+    )
 
 array-read-last : tie.Need-array-read-last
 array-read-last c = search needs
