@@ -2,7 +2,6 @@
 pub mod Lengths
 pub mod Accepted
 pub mod Range
-pub mod Sign
 pub mod Lanes
 pub mod Columns
 pub mod States

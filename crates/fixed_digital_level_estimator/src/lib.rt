@@ -2,15 +2,12 @@
 // Rust's fixed_digital_level_estimator.
 
 ghost use mathlib.Core.Path.{_≡_};
+ghost use mathlib.Core.Bool.{true};
 ghost use mathlib.Core.List.{List};
 ghost use Prim.Native.Nat.{_*_, _≤_, _+_, _%_};
 ghost use lib.ListN.{length, drop};
-ghost use Rattle.lists.specs.Each.{Each};
-ghost use Rattle.floats.specs.Choice.{larger};
-ghost use Rattle.floats.specs.Kinds.{magnitude};
-ghost use Rattle.floats.specs.Laws.Kinds.{nought};
-ghost use Rattle.fixed_digital_level_estimator.specs.Range.{Sound};
-ghost use Rattle.fixed_digital_level_estimator.specs.Lanes.{Standing, Raised, columnFrom};
+ghost use Rattle.frames.specs.Samples.{largestLevel, allWithin};
+ghost use Rattle.fixed_digital_level_estimator.specs.Lanes.{Raised, column, peak};
 ghost use Rattle.fixed_digital_level_estimator.specs.Envelope.{peaksOver, raised, smoothed, silence, decayed};
 ghost use Rattle.fixed_digital_level_estimator.specs.Estimator.{passes, made, computed, changed, cleared, heard};
 use units::kinds::LinearS16;
@@ -51,38 +48,57 @@ pub struct Heard {
     pub level: LinearS16,
 }
 
-// The largest magnitudes that were found so far, of every fourth sample each: the machine takes four
-// at a time.
+// What was found so far in every fourth sample each, since the machine takes four at a time: the
+// highest samples, the lowest, and the sums, which are numbers only where all samples are.
 struct Lanes {
     a: f32,
     b: f32,
     c: f32,
     d: f32,
+    e: f32,
+    f: f32,
+    g: f32,
+    h: f32,
+    s: f32,
+    t: f32,
+    u: f32,
+    v: f32,
 }
 
-// A lane raised to a sample's magnitude: its bits without the highest, which is the sign.
-fn higher(lane: f32, x: f32) -> f32
-    requires { ⌜ Sound x ⌝ }
-    ensures { λ r. ⌜ r ≡ larger lane (magnitude x) ⌝ }
-{
-    floats::larger(lane, f32::from_bits(f32::to_bits(x) % 2147483648))
+// The peaks of a frame, and whether all its samples are within the bound.
+struct Peaks {
+    tame: bool,
+    peaks: [f32; 20],
 }
 
-// Each lane raised to its sample of four.
+// Each lane raised by its sample of four.
 fn raise_by_four(lanes: Lanes, block: &[f32]) -> Lanes
-    requires { ⌜ Standing lanes × (length (now block) ≡ 4) × Each Sound (now block) ⌝ }
+    requires { ⌜ length (now block) ≡ 4 ⌝ }
     ensures { λ r. ⌜ Raised lanes (now (block .entry)) r ⌝ }
 {
-    let a = higher(lanes.a, block[0]);
-    let b = higher(lanes.b, block[1]);
-    let c = higher(lanes.c, block[2]);
-    let d = higher(lanes.d, block[3]);
-    Lanes { a, b, c, d }
+    let w = block[0];
+    let x = block[1];
+    let y = block[2];
+    let z = block[3];
+    Lanes {
+        a: floats::larger(w, lanes.a),
+        b: floats::larger(x, lanes.b),
+        c: floats::larger(y, lanes.c),
+        d: floats::larger(z, lanes.d),
+        e: floats::smaller(w, lanes.e),
+        f: floats::smaller(x, lanes.f),
+        g: floats::smaller(y, lanes.g),
+        h: floats::smaller(z, lanes.h),
+        s: lanes.s + w,
+        t: lanes.t + x,
+        u: lanes.u + y,
+        v: lanes.v + z,
+    }
 }
 
 // The lanes raised by samples whose number is a multiple of four.
 fn raise_by_blocks(lanes: Lanes, blocks: &[f32]) -> Lanes
-    requires { ⌜ Standing lanes × (length (now blocks) % 4 ≡ 0) × Each Sound (now blocks) ⌝ }
+    requires { ⌜ length (now blocks) % 4 ≡ 0 ⌝ }
     ensures { λ r. ⌜ Raised lanes (now (blocks .entry)) r ⌝ }
 {
     let mut found = lanes;
@@ -98,13 +114,17 @@ fn raise_by_blocks(lanes: Lanes, blocks: &[f32]) -> Lanes
 
 // The first lane raised by each sample.
 fn raise_by_each(lanes: Lanes, some: &[f32]) -> Lanes
-    requires { ⌜ Standing lanes × Each Sound (now some) ⌝ }
     ensures { λ r. ⌜ Raised lanes (now (some .entry)) r ⌝ }
 {
     let mut a = lanes.a;
+    let mut e = lanes.e;
+    let mut s = lanes.s;
     let mut i = 0;
     while i < some.len() {
-        a = higher(a, some[i]);
+        let x = some[i];
+        a = floats::larger(x, a);
+        e = floats::smaller(x, e);
+        s = s + x;
         i += 1;
     }
     Lanes {
@@ -112,12 +132,19 @@ fn raise_by_each(lanes: Lanes, some: &[f32]) -> Lanes
         b: lanes.b,
         c: lanes.c,
         d: lanes.d,
+        e,
+        f: lanes.f,
+        g: lanes.g,
+        h: lanes.h,
+        s,
+        t: lanes.t,
+        u: lanes.u,
+        v: lanes.v,
     }
 }
 
 // The lanes raised by a sub-frame. That of 48 kHz has a way of its own, which has no loop when it runs.
 fn raise_by_part(lanes: Lanes, part: &[f32]) -> Lanes
-    requires { ⌜ Standing lanes × Each Sound (now part) ⌝ }
     ensures { λ r. ⌜ Raised lanes (now (part .entry)) r ⌝ }
 {
     let n = part.len();
@@ -130,47 +157,85 @@ fn raise_by_part(lanes: Lanes, part: &[f32]) -> Lanes
     }
 }
 
-// The largest magnitude of one sub-frame over all channels.
-fn column_peak(frame: &[f32], at: usize, channels: usize, samples: usize, part: usize) -> f32
-    requires { ⌜ (length (now frame) ≡ channels * samples) × (at + part ≤ samples) × Each Sound (now frame) ⌝ }
-    ensures { λ r. ⌜ r ≡ columnFrom channels samples part nought (drop at (now (frame .entry))) ⌝ }
+// The lanes raised by one sub-frame of each channel.
+fn raise_by_column(lanes: Lanes, frame: &[f32], at: usize, channels: usize, samples: usize, part: usize) -> Lanes
+    requires { ⌜ (length (now frame) ≡ channels * samples) × (at + part ≤ samples) ⌝ }
+    ensures { λ r. ⌜ Raised lanes (column channels samples part (drop at (now (frame .entry)))) r ⌝ }
 {
-    let mut lanes = Lanes {
-        a: 0.0,
-        b: 0.0,
-        c: 0.0,
-        d: 0.0,
-    };
+    let mut found = lanes;
     let mut from = at;
     let mut left = channels;
     while 0 < left {
         let to = from + part;
-        let next = raise_by_part(lanes, &frame[from..to]);
-        lanes = next;
+        let next = raise_by_part(found, &frame[from..to]);
+        found = next;
         from += samples;
         left -= 1;
     }
-    floats::larger(
-        floats::larger(floats::larger(lanes.a, lanes.b), lanes.c),
-        lanes.d,
-    )
+    found
 }
 
-// The largest magnitudes of the twenty sub-frames over all channels.
-fn frame_peaks(frame: &[f32], channels: usize, samples: usize, part: usize) -> [f32; 20]
-    requires { ⌜ (length (now frame) ≡ channels * samples) × (samples ≡ 20 * part) × Each Sound (now frame) ⌝ }
-    ensures { λ r. ⌜ r ≡ peaksOver channels samples part silence (now (frame .entry)) ⌝ }
+// The largest magnitude that the lanes found.
+fn largest(lanes: Lanes) -> f32
+    ensures { λ r. ⌜ r ≡ peak lanes ⌝ }
+{
+    let high = floats::larger(
+        floats::larger(floats::larger(lanes.a, lanes.b), lanes.c),
+        lanes.d,
+    );
+    let low = floats::smaller(
+        floats::smaller(floats::smaller(lanes.e, lanes.f), lanes.g),
+        lanes.h,
+    );
+    floats::larger(0.0 - low, high)
+}
+
+// The largest magnitudes of the twenty sub-frames over all channels, and whether each sample is within
+// the bound: whatever the samples are, it looks at each once.
+fn frame_peaks(frame: &[f32], channels: usize, samples: usize, part: usize) -> Peaks
+    requires { ⌜ (length (now frame) ≡ channels * samples) × (samples ≡ 20 * part) ⌝ }
+    ensures { λ r. ⌜ (r .tame ≡ allWithin largestLevel (now (frame .entry))) × (r .tame ≡ true → r .peaks ≡ peaksOver channels samples part silence (now (frame .entry))) ⌝ }
 {
     let mut peaks = [0.0; 20];
+    let mut highest = 0.0;
+    let mut s = 0.0;
+    let mut t = 0.0;
+    let mut u = 0.0;
+    let mut v = 0.0;
     let mut at = 0;
     let mut k = 0;
     while k < 20 {
-        let largest = column_peak(frame, at, channels, samples, part);
-        peaks[k] = largest;
+        let lanes = Lanes {
+            a: 0.0,
+            b: 0.0,
+            c: 0.0,
+            d: 0.0,
+            e: 0.0,
+            f: 0.0,
+            g: 0.0,
+            h: 0.0,
+            s,
+            t,
+            u,
+            v,
+        };
+        let next = raise_by_column(lanes, frame, at, channels, samples, part);
+        let peak = largest(next);
+        peaks[k] = peak;
+        highest = floats::larger(peak, highest);
+        s = next.s;
+        t = next.t;
+        u = next.u;
+        v = next.v;
         at += part;
         k += 1;
     }
-    peaks
+    let tame = (highest <= frames::LARGEST_LEVEL)
+        & floats::is_finite(s)
+        & floats::is_finite(t)
+        & floats::is_finite(u)
+        & floats::is_finite(v);
+    Peaks { tame, peaks }
 }
 
 // Each value but the last raised to its right neighbour, as that came in, where that is larger.
@@ -247,29 +312,32 @@ impl Estimator {
         let set = self.samples;
         let part = self.part;
         let ok = self.passes();
-        let reply = frames::refusal(
-            frame,
-            channels,
-            samples,
-            samples == set,
-            ok,
-            true,
-            frames::LARGEST_LEVEL,
-        );
-        if reply == DONE {
-            let peaks = frame_peaks(frame, channels, samples, part);
-            let envelope = smooth(level, raise(peaks));
-            let last = envelope[19];
-            Levels {
-                reply,
-                estimator: Estimator {
-                    level: last,
-                    samples: set,
-                    part,
-                },
-                envelope,
+        let shape = frames::is_shape(channels, samples, frame.len()) & (samples == set);
+        if shape & ok {
+            let found = frame_peaks(frame, channels, samples, part);
+            let peaks = found.peaks;
+            let reply = units::replies::refusal(true, true, true, found.tame);
+            if reply == DONE {
+                let envelope = smooth(level, raise(peaks));
+                let last = envelope[19];
+                Levels {
+                    reply,
+                    estimator: Estimator {
+                        level: last,
+                        samples: set,
+                        part,
+                    },
+                    envelope,
+                }
+            } else {
+                Levels {
+                    reply,
+                    estimator: self,
+                    envelope: [0.0; 20],
+                }
             }
         } else {
+            let reply = units::replies::refusal(shape, ok, true, true);
             Levels {
                 reply,
                 estimator: self,

@@ -7,9 +7,7 @@ use lib.Ieee.{Float}
 use lib.ListN.{length, take, drop, length-drop}
 use lib.Seq.{take-all, take-add, length-take-le}
 use borrow.Author.Needs.{needs}
-use Rattle.lists.specs.Each.{Each, each-take, each-drop}
-use Rattle.fixed_digital_level_estimator.specs.Range.{Sound}
-use Rattle.fixed_digital_level_estimator.specs.Lanes.{Standing, Raised}
+use Rattle.fixed_digital_level_estimator.specs.Lanes.{Raised}
 use Rattle.fixed_digital_level_estimator.specs.Laws.Lanes.{raised-none, raised-more}
 use Rattle.fixed_digital_level_estimator.specs.declared.Lanes.{Lanes}
 use Rattle.fixed_digital_level_estimator.proofs.raise_by_blocks.Statement.{statement}
@@ -32,7 +30,7 @@ abbrev μ-loop : tie.MeasureT-loop
 μ-loop blocks found₀ i₀ found i = length blocks - i
 
 loop-holds : tie.Need-loop-holds Inv-loop μ-loop
-loop-holds c = (omega arith, refl, raised-none _ (c .before .pre .0))
+loop-holds c = (omega arith, refl, raised-none _)
 
 add-to : tie.Need-add-to Inv-loop μ-loop
 add-to c = search needs
@@ -47,7 +45,7 @@ part-raise-by-four-start : tie.Need-part-raise-by-four-start Inv-loop μ-loop
 part-raise-by-four-start c = search needs
 
 part-raise-by-four-end : tie.Need-part-raise-by-four-end Inv-loop μ-loop
-part-raise-by-four-end c = room (c .before .loop .i) (length (c .before .before .before .args .blocks .now)) (omega arith) (c .before .loop .inv .1) (c .before .before .before .pre .1)
+part-raise-by-four-end c = room (c .before .loop .i) (length (c .before .before .before .args .blocks .now)) (omega arith) (c .before .loop .inv .1) (c .before .before .before .pre)
 
 raise-by-four-requires : tie.Need-raise-by-four-requires Inv-loop μ-loop
 raise-by-four-requires c κs =
@@ -56,11 +54,8 @@ raise-by-four-requires c κs =
     let blocks = start .args .blocks .now in
     let i = loop .i in
     let size : i + 4 - i ≡ 4 = omega arith in
-    let enough = room i (length blocks) (omega arith) (loop .inv .1) (start .pre .1) in (
-      loop .inv .2 .standing,
-      rw size (length-take-le 4 (drop i blocks) (rw length-drop (omega arith))),
-      each-take Sound (i + 4 - i) (drop i blocks) (each-drop Sound i blocks (start .pre .2)),
-    )
+    let enough = room i (length blocks) (omega arith) (loop .inv .1) (start .pre) in
+    rw size (length-take-le 4 (drop i blocks) (rw length-drop (omega arith)))
 
 loop-less : tie.Need-loop-less Inv-loop μ-loop
 loop-less c = search needs
@@ -70,7 +65,7 @@ loop-again c =
     let start = c .before .before .before .before .before in
     let loop = c .before .before .before .loop in
     let even = loop .inv .1 in (
-      room (loop .i) (length (start .args .blocks .now)) (omega arith) (loop .inv .1) (start .pre .1),
+      room (loop .i) (length (start .args .blocks .now)) (omega arith) (loop .inv .1) (start .pre),
       omega arith,
       block-more (start .args .lanes) (loop .found) (c .raise-by-four .result) (start .args .blocks .now) (loop .i) (loop .inv .2) (c .raise-by-four .ensures),
     )

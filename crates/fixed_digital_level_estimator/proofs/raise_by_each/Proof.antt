@@ -4,46 +4,52 @@ use mathlib.Core.List.{List, [], _∷_}
 use Prim.Native.Nat.{ℕ, _+_, _-_, _≤_, _<_}
 use native.Mathlib.Numerals.{add-one}
 use native.Mathlib.Omega.{arith}
-use lib.Ieee.{Float, nan}
+use lib.Ieee.{Float, nan, binary32, add}
 use lib.ListN.{length, getD, take}
 use lib.Seq.{take-all, take-suc}
 use borrow.Author.Needs.{needs}
-use Rattle.lists.specs.Each.{Each, each-at}
-use Rattle.floats.specs.Choice.{larger}
-use Rattle.floats.specs.Kinds.{magnitude}
-use Rattle.fixed_digital_level_estimator.specs.Range.{Sound}
+use Rattle.floats.specs.Choice.{larger, smaller}
+use Rattle.fixed_digital_level_estimator.specs.Range.{Held}
 use Rattle.fixed_digital_level_estimator.specs.Lanes.{Raised}
-use Rattle.fixed_digital_level_estimator.specs.Laws.Lanes.{raised-none, raised-one, raised-more}
+use Rattle.fixed_digital_level_estimator.specs.Laws.Lanes.{byOne, raised-none, raised-one, raised-more}
 use Rattle.fixed_digital_level_estimator.specs.declared.Lanes.{Lanes}
 use Rattle.fixed_digital_level_estimator.proofs.raise_by_each.Statement.{statement}
 use Rattle.fixed_digital_level_estimator.proofs.raise_by_each.Tie as tie
 
+-- the lanes with another first one
+abbrev with-first : Lanes → Float → Float → Float → Lanes
+with-first l a e s =
+    record { a = a; b = l .b; c = l .c; d = l .d; e = e; f = l .f; g = l .g; h = l .h; s = s; t = l .t; u = l .u; v = l .v }
+
 -- one sample more
-one-more : (l : Lanes) (xs : List Float) (a v : Float) (i : ℕ) → i < length xs → Each Sound xs
-    → Raised l (take i xs) (record { a = a; b = l .b; c = l .c; d = l .d }) → v ≡ larger a (magnitude (getD xs i nan))
-    → Raised l (take (i + 1) xs) (record { a = v; b = l .b; c = l .c; d = l .d })
-one-more l xs a v i h s r e =
+one-more : (l : Lanes) (xs : List Float) (a e s p q : Float) (i : ℕ) → i < length xs → Held xs
+    → Raised l (take i xs) (with-first l a e s) → p ≡ larger (getD xs i nan) a → q ≡ smaller (getD xs i nan) e
+    → Raised l (take (i + 1) xs) (with-first l p q (add binary32 s (getD xs i nan)))
+one-more l xs a e s p q i h f r ep eq =
     let x = getD xs i nan in
-    let m : Lanes = record { a = a; b = l .b; c = l .c; d = l .d } in
-    rw (add-one, take-suc xs i nan h, e) (raised-more l m _ (take i xs) (x ∷ []) r (raised-one m x (r .standing) (each-at Sound xs nan i h s)))
+    let m = with-first l a e s in
+    rw (add-one, take-suc xs i nan h, ep, eq) (raised-more l m (byOne m x) (take i xs) (x ∷ []) r (raised-one m x (f i)))
 
 abbrev Inv-loop : tie.InvT-loop
-Inv-loop lanes some a₀ i₀ a i = (i ≤ length some) × Raised lanes (take i some) (record { a = a; b = lanes .b; c = lanes .c; d = lanes .d })
+Inv-loop lanes some a₀ e₀ s₀ i₀ a e s i = (i ≤ length some) × Raised lanes (take i some) (with-first lanes a e s)
 
 abbrev μ-loop : tie.MeasureT-loop
-μ-loop lanes some a₀ i₀ a i = length some - i
+μ-loop lanes some a₀ e₀ s₀ i₀ a e s i = length some - i
 
 loop-holds : tie.Need-loop-holds Inv-loop μ-loop
-loop-holds c = (omega arith, raised-none _ (c .before .pre .0))
+loop-holds c = (omega arith, raised-none _)
 
-mul-higher : tie.Need-mul-higher Inv-loop μ-loop
-mul-higher c = search needs
+mul-x : tie.Need-mul-x Inv-loop μ-loop
+mul-x c = search needs
 
-shared-slice-read-higher : tie.Need-shared-slice-read-higher Inv-loop μ-loop
-shared-slice-read-higher c = search needs
+shared-slice-read-x : tie.Need-shared-slice-read-x Inv-loop μ-loop
+shared-slice-read-x c = search needs
 
-higher-requires : tie.Need-higher-requires Inv-loop μ-loop
-higher-requires c κs = each-at Sound (c .before .before .before .before .args .some .now) nan (c .before .before .loop .i) (omega arith) (c .before .before .before .before .pre .1)
+larger-requires : tie.Need-larger-requires Inv-loop μ-loop
+larger-requires c κs = search needs
+
+smaller-requires : tie.Need-smaller-requires Inv-loop μ-loop
+smaller-requires c κs = search needs
 
 add-i : tie.Need-add-i Inv-loop μ-loop
 add-i c = search needs
@@ -53,11 +59,12 @@ loop-less c = search needs
 
 loop-again : tie.Need-loop-again Inv-loop μ-loop
 loop-again c =
-    let start = c .before .before .before .before .before in
-    let loop = c .before .before .before .loop in (
+    let loop = c .before .before .before .before .loop in
+    let known = c .before .before .before .before .before in
+    let start = known .before in (
       omega arith,
-      one-more (start .args .lanes) (start .args .some .now) (loop .a) (c .higher .result) (loop .i) (omega arith) (start .pre .1) (loop .inv .1)
-          (c .higher .ensures),
+      one-more (start .args .lanes) (start .args .some .now) (loop .a) (loop .e) (loop .s) (c .before .larger .result) (c .smaller .result) (loop .i) (omega arith)
+          (known .shared-slice-known .given) (loop .inv .1) (c .before .larger .ensures) (c .smaller .ensures),
     )
 
 returns : tie.Need-returns Inv-loop μ-loop
@@ -65,7 +72,7 @@ returns c =
     let start = c .before .before .before in
     let loop = c .before .loop in
     let l = start .args .lanes in
-    subst (λ (ys : List Float). Raised l ys (record { a = loop .a; b = l .b; c = l .c; d = l .d })) (take-all (loop .i) (start .args .some .now) (omega arith)) (loop .inv .1)
+    subst (λ (ys : List Float). Raised l ys (with-first l (loop .a) (loop .e) (loop .s))) (take-all (loop .i) (start .args .some .now) (omega arith)) (loop .inv .1)
 
 pub raise-by-each-spec : {M : Type 1} → statement M
 raise-by-each-spec =
@@ -74,9 +81,10 @@ raise-by-each-spec =
     Inv-loop
     μ-loop
     loop-holds
-    mul-higher
-    shared-slice-read-higher
-    higher-requires
+    mul-x
+    shared-slice-read-x
+    larger-requires
+    smaller-requires
     add-i
     loop-less
     loop-again

@@ -8,9 +8,7 @@ use lib.Ieee.{Float}
 use lib.ListN.{length, take, drop, length-drop, take-append-drop}
 use lib.Seq.{take-all, length-take-le}
 use borrow.Author.Needs.{needs}
-use Rattle.lists.specs.Each.{Each, each-take, each-drop}
-use Rattle.fixed_digital_level_estimator.specs.Range.{Sound}
-use Rattle.fixed_digital_level_estimator.specs.Lanes.{Standing, Raised}
+use Rattle.fixed_digital_level_estimator.specs.Lanes.{Raised}
 use Rattle.fixed_digital_level_estimator.specs.Laws.Lanes.{raised-more}
 use Rattle.fixed_digital_level_estimator.specs.declared.Lanes.{Lanes}
 use Rattle.fixed_digital_level_estimator.proofs.raise_by_part.Statement.{statement}
@@ -32,9 +30,8 @@ slice-aggregate-raise-by-blocks c = sym (length-take-le 24 (c .before .before .b
 
 raise-by-blocks-requires : tie.Need-raise-by-blocks-requires
 raise-by-blocks-requires c κs =
-    let start = c .before .before .before in
-    let part = start .args .part .now in
-    (start .pre .0, rw (length-take-le 24 part (omega arith)) refl, each-take Sound 24 part (start .pre .1))
+    let part = c .before .before .before .args .part .now in
+    rw (length-take-le 24 part (omega arith)) refl
 
 sub-whole : tie.Need-sub-whole
 sub-whole c = search needs
@@ -46,10 +43,8 @@ slice-aggregate-raise-by-blocks-2 c =
 
 raise-by-blocks-requires-2 : tie.Need-raise-by-blocks-requires-2
 raise-by-blocks-requires-2 c κs =
-    let start = c .before .before .before in
-    let part = start .args .part .now in
-    let whole = length part - length part % 4 in
-    (start .pre .0, rw (length-take-le whole part (omega arith)) (even (length part)), each-take Sound whole part (start .pre .1))
+    let part = c .before .before .before .args .part .now in
+    rw (length-take-le (length part - length part % 4) part (omega arith)) (even (length part))
 
 mul-raise-by-each : tie.Need-mul-raise-by-each
 mul-raise-by-each c = search needs
@@ -64,11 +59,7 @@ part-raise-by-each-end : tie.Need-part-raise-by-each-end
 part-raise-by-each-end c = search needs
 
 raise-by-each-requires : tie.Need-raise-by-each-requires
-raise-by-each-requires c κs =
-    let start = c .before .before .before .before .before in
-    let part = start .args .part .now in
-    let whole = length part - length part % 4 in
-    (c .before .raise-by-blocks2 .ensures .standing, each-take Sound (length part - whole) (drop whole part) (each-drop Sound whole part (start .pre .1)))
+raise-by-each-requires c κs = search needs
 
 returns : tie.Need-returns
 returns c =

@@ -1,5 +1,6 @@
--- `fixed_digital_level_estimator::column_peak` meets its contract. The invariant: the column of the channels that are left, from what was found so far, is the whole. Assumes nothing.
-use mathlib.Core.Path.{_≡_, refl, sym, ap, ap₂, _∙_, subst}
+-- `fixed_digital_level_estimator::raise_by_column` meets its contract. The invariant: what the channels that are left make of the lanes, all channels make of
+-- those that came in. Assumes nothing.
+use mathlib.Core.Path.{_≡_}
 use mathlib.Core.List.{List}
 use Prim.Native.Nat.{ℕ, zero, suc, _+_, _*_, _-_, _≤_, _<_}
 use native.Mathlib.Nat.{suc-mul}
@@ -8,15 +9,11 @@ use lib.Ieee.{Float}
 use lib.ListN.{length, take, drop}
 use lib.Seq.{drop-drop}
 use borrow.Author.Needs.{needs}
-use Rattle.lists.specs.Each.{Each, each-take, each-drop}
-use Rattle.floats.specs.Choice.{larger}
-use Rattle.floats.specs.Laws.Kinds.{nought}
-use Rattle.fixed_digital_level_estimator.specs.Envelope.{peakFrom}
-use Rattle.fixed_digital_level_estimator.specs.Range.{Sound}
-use Rattle.fixed_digital_level_estimator.specs.Lanes.{Standing, Raised, columnFrom, found, joined}
-use Rattle.fixed_digital_level_estimator.specs.Laws.Lanes.{empty-standing, empty-found}
-use Rattle.fixed_digital_level_estimator.proofs.column_peak.Statement.{statement}
-use Rattle.fixed_digital_level_estimator.proofs.column_peak.Tie as tie
+use Rattle.fixed_digital_level_estimator.specs.Lanes.{Raised, column}
+use Rattle.fixed_digital_level_estimator.specs.Laws.Lanes.{raised-none, raised-more}
+use Rattle.fixed_digital_level_estimator.specs.declared.Lanes.{Lanes}
+use Rattle.fixed_digital_level_estimator.proofs.raise_by_column.Statement.{statement}
+use Rattle.fixed_digital_level_estimator.proofs.raise_by_column.Tie as tie
 
 -- while a channel is left, there is room for its sub-frame
 record Room (from samples at part size : ℕ) : Type 0 where
@@ -41,36 +38,31 @@ rest from (suc left) samples size h e =
     rw one (omega (arith, suc-mul left samples))
 
 -- one channel, and then the others
-one-channel : (left samples part from : ℕ) (frame : List Float) (f more : Float) → 0 < left → more ≡ peakFrom f (take (from + part - from) (drop from frame))
-    → columnFrom (left - 1) samples part more (drop (from + samples) frame) ≡ columnFrom left samples part f (drop from frame)
-unfolding columnFrom
-one-channel zero samples part from frame f more h e = absurd (omega arith)
-one-channel (suc left) samples part from frame f more h e =
+one-channel : (left samples part from : ℕ) (frame : List Float) (l m r : Lanes) → 0 < left → Raised l (take (from + part - from) (drop from frame)) m
+    → Raised m (column (left - 1) samples part (drop (from + samples) frame)) r → Raised l (column left samples part (drop from frame)) r
+unfolding column
+one-channel zero samples part from frame l m r h j k = absurd (omega arith)
+one-channel (suc left) samples part from frame l m r h j k =
     let one : suc left - 1 ≡ left = omega arith in
     let size : from + part - from ≡ part = omega arith in
-    rw one (ap₂ (columnFrom left samples part) (rw size at e) (sym (drop-drop samples from frame)))
+    raised-more l m r (take part (drop from frame)) (column left samples part (drop samples (drop from frame))) (rw size at j) (rw (drop-drop samples from frame) (rw one at k))
 
 -- none is left
-no-channel : (left samples part : ℕ) (frame : List Float) (f : Float) → left ≤ 0 → f ≡ columnFrom left samples part f frame
-unfolding columnFrom
-no-channel zero samples part frame f h = refl
-no-channel (suc left) samples part frame f h = absurd (omega arith)
+no-channel : (left samples part : ℕ) (frame : List Float) (l : Lanes) → left ≤ 0 → Raised l (column left samples part frame) l
+unfolding column
+no-channel zero samples part frame l h = raised-none l
+no-channel (suc left) samples part frame l h = absurd (omega arith)
 
 abbrev Inv-loop : tie.InvT-loop
-Inv-loop frame at channels samples part lanes₀ from₀ left₀ lanes from left =
-    (left ≤ channels) × (from + left * samples ≡ at + length frame) × Standing lanes × (columnFrom left samples part (found lanes) (drop from frame) ≡ columnFrom channels samples part nought (drop at frame))
+Inv-loop frame at channels samples part found₀ from₀ left₀ found from left =
+    (left ≤ channels) × (from + left * samples ≡ at + length frame)
+    × ((r : Lanes) → Raised found (column left samples part (drop from frame)) r → Raised found₀ (column channels samples part (drop at frame)) r)
 
 abbrev μ-loop : tie.MeasureT-loop
-μ-loop frame at channels samples part lanes₀ from₀ left₀ lanes from left = left
+μ-loop frame at channels samples part found₀ from₀ left₀ found from left = left
 
 loop-holds : tie.Need-loop-holds Inv-loop μ-loop
-loop-holds c =
-    let args = c .before .args in (
-      omega arith,
-      omega arith,
-      empty-standing,
-      ap (λ (z : Float). columnFrom (args .channels) (args .samples) (args .part) z (drop (args .at) (args .frame .now))) empty-found,
-    )
+loop-holds c = (omega arith, omega arith, λ (r : Lanes) (h : _). h)
 
 -- in a turn
 fits-in : (c : tie.In-loop Inv-loop μ-loop)
@@ -98,11 +90,7 @@ part-raise-by-part-end : tie.Need-part-raise-by-part-end Inv-loop μ-loop
 part-raise-by-part-end c = fits-in c .inside
 
 raise-by-part-requires : tie.Need-raise-by-part-requires Inv-loop μ-loop
-raise-by-part-requires c κs =
-    let start = c .before .before .before .before in
-    let loop = c .before .before .loop in
-    let from = loop .from in
-    (loop .inv .2, each-take Sound (from + start .args .part - from) (drop from (start .args .frame .now)) (each-drop Sound from (start .args .frame .now) (start .pre .2)))
+raise-by-part-requires c κs = search needs
 
 add-from : tie.Need-add-from Inv-loop μ-loop
 add-from c = let r = fits-in (c .before .before) in omega (arith, r .whole, r .first)
@@ -120,33 +108,19 @@ loop-again c =
     let taken : 0 < loop .left = omega arith in (
       omega arith,
       rest (loop .from) (loop .left) (args .samples) (args .at + length (args .frame .now)) taken (loop .inv .1),
-      c .raise-by-part .ensures .standing,
-      one-channel (loop .left) (args .samples) (args .part) (loop .from) (args .frame .now) (found (loop .lanes)) (found (c .raise-by-part .result)) taken (c .raise-by-part .ensures .largest)
-          ∙ loop .inv .3,
+      λ (r : Lanes) (k : _).
+          loop .inv .2 r
+          (one-channel (loop .left) (args .samples) (args .part) (loop .from) (args .frame .now) (loop .found) (c .raise-by-part .result) r taken (c .raise-by-part .ensures) k),
     )
 
-larger-requires : tie.Need-larger-requires Inv-loop μ-loop
-larger-requires c κs = search needs
-
-larger-requires-2 : tie.Need-larger-requires-2 Inv-loop μ-loop
-larger-requires-2 c κs = search needs
-
-larger-requires-3 : tie.Need-larger-requires-3 Inv-loop μ-loop
-larger-requires-3 c κs = search needs
-
 returns : tie.Need-returns Inv-loop μ-loop
-unfolding joined
 returns c =
-    let args = c .before .before .before .before .before .before .args in
-    let loop = c .before .before .before .before .loop in
-    let l = loop .lanes in
-    c .larger3 .ensures
-    ∙ ap (λ (z : Float). larger z (l .d)) (c .before .larger2 .ensures ∙ ap (λ (z : Float). larger z (l .c)) (c .before .before .larger .ensures))
-    ∙ no-channel (loop .left) (args .samples) (args .part) (drop (loop .from) (args .frame .now)) (found l) (omega arith)
-    ∙ loop .inv .3
+    let args = c .before .before .before .args in
+    let loop = c .before .loop in
+    loop .inv .2 (loop .found) (no-channel (loop .left) (args .samples) (args .part) (drop (loop .from) (args .frame .now)) (loop .found) (omega arith))
 
-pub column-peak-spec : {M : Type 1} → statement M
-column-peak-spec =
+pub raise-by-column-spec : {M : Type 1} → statement M
+raise-by-column-spec =
     tie.close
     (tie.spec
     Inv-loop
@@ -162,7 +136,4 @@ column-peak-spec =
     sub-left
     loop-less
     loop-again
-    larger-requires
-    larger-requires-2
-    larger-requires-3
     returns)
