@@ -4,4 +4,5 @@ pub mod Accepted
 pub mod Range
 pub mod Lanes
 pub mod Columns
+pub mod Tested
 pub mod States

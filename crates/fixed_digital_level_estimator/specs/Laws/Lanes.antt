@@ -33,7 +33,7 @@ use Rattle.fixed_digital_level_estimator.specs.Lanes.{Plain, Upper, Lowe
 use Rattle.fixed_digital_level_estimator.specs.declared.Lanes.{Lanes}
 
 -- ---- two magnitudes with the same units are the same
-none-below : (x : Float) → N (magnitude x) ≡ 0
+pub none-below : (x : Float) → N (magnitude x) ≡ 0
 unfolding N magnitude
 none-below nan = refl
 none-below (inf s) = refl
@@ -481,14 +481,14 @@ record Peaked (f : Float) (xs : List Float) (z : Float) : Type 0 where
   over : (n : ℕ) → P z ≤ n → P f ≤ n × Each (Within n) xs
 
 -- how far a sample is from zero
-magnitude-under : (n : ℕ) (x : Float) → Within n x → P (magnitude x) ≤ n
+pub magnitude-under : (n : ℕ) (x : Float) → Within n x → P (magnitude x) ≤ n
 magnitude-under n x h = go (sides x (h .number) .one)
   where
     go : (P x ≡ 0) ⊎ (N x ≡ 0) → P (magnitude x) ≤ n
     go (inl z) = let i = magnitude-units x in let j = h .minus in omega arith
     go (inr z) = let i = magnitude-units x in let j = h .plus in omega arith
 
-magnitude-over : (n : ℕ) (x : Float) → Number x → P (magnitude x) ≤ n → Within n x
+pub magnitude-over : (n : ℕ) (x : Float) → Number x → P (magnitude x) ≤ n → Within n x
 magnitude-over n x h k = let i = magnitude-units x in record { number = h; plus = omega arith; minus = omega arith }
 
 plain-larger : (x y : Float) → Plain x → Plain y → Plain (larger x y)

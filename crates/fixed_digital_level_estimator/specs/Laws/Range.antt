@@ -41,11 +41,11 @@ high-real = tt
 low-number : Number (ofBits binary32 0x0000_0000)
 low-number = constant-number 0x0000_0000 low-real
 
-high-number : Number (ofBits binary32 0x4c00_0000)
+pub high-number : Number (ofBits binary32 0x4c00_0000)
 high-number = constant-number 0x4c00_0000 high-real
 
 -- 0 is no units on either side, and the other end is none below zero
-end-units : (P (ofBits binary32 0x0000_0000) ≡ 0) × (N (ofBits binary32 0x0000_0000) ≡ 0) × (N (ofBits binary32 0x4c00_0000) ≡ 0)
+pub end-units : (P (ofBits binary32 0x0000_0000) ≡ 0) × (N (ofBits binary32 0x0000_0000) ≡ 0) × (N (ofBits binary32 0x4c00_0000) ≡ 0)
 unfolding P N ofBits
 end-units = (refl, refl, refl)
 
