@@ -11,7 +11,6 @@ ghost use Rattle.fixed_digital_level_estimator.specs.Lanes.{Raised, colu
 ghost use Rattle.fixed_digital_level_estimator.specs.Envelope.{peaksOver, raised, smoothed, silence, decayed};
 ghost use Rattle.fixed_digital_level_estimator.specs.Estimator.{passes, made, computed, changed, cleared, heard};
 use units::kinds::LinearS16;
-use units::replies::DONE;
 
 // How much of a level is kept from one sub-frame to the next while it falls.
 const DECAY: f32 = 0.9971259;
@@ -317,7 +316,7 @@ impl Estimator {
             let found = frame_peaks(frame, channels, samples, part);
             let peaks = found.peaks;
             let reply = units::replies::refusal(true, true, true, found.tame);
-            if reply == DONE {
+            if found.tame {
                 let envelope = smooth(level, raise(peaks));
                 let last = envelope[19];
                 Levels {
