@@ -157,7 +157,14 @@ fn raise_by_part(lanes: Lanes, part: &[f32]) -> Lanes
 }
 
 // The lanes raised by one sub-frame of each channel.
-fn raise_by_column(lanes: Lanes, frame: &[f32], at: usize, channels: usize, samples: usize, part: usize) -> Lanes
+fn raise_by_column(
+    lanes: Lanes,
+    frame: &[f32],
+    at: usize,
+    channels: usize,
+    samples: usize,
+    part: usize,
+) -> Lanes
     requires { ⌜ (length (now frame) ≡ channels * samples) × (at + part ≤ samples) ⌝ }
     ensures { λ r. ⌜ Raised lanes (column channels samples part (drop at (now (frame .entry)))) r ⌝ }
 {

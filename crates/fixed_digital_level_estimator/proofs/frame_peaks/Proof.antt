@@ -134,7 +134,8 @@ loop-again c =
       omega arith,
       λ (h : Real (started (lanes .s) (lanes .t) (lanes .u) (lanes .v))).
           one-part (args .channels) (args .samples) (args .part) (loop .at) (loop .k) (args .frame .now) (loop .peaks) found (omega arith) (loop .inv .1)
-          (c .before .largest .ensures ∙ same-peak (loop .s) (loop .t) (loop .u) (loop .v) _ lanes raised (real h))
+          (c .before .largest .ensures
+          ∙ same-peak (loop .s) (loop .t) (loop .u) (loop .v) (column (args .channels) (args .samples) (args .part) (drop (loop .at) (args .frame .now))) lanes raised (real h))
           ∙ loop .inv .3 (raised .before (real h)),
       one-tested (args .frame .now) (args .channels) (args .samples) (args .part) (loop .at) (loop .k) (loop .highest) (loop .s) (loop .t) (loop .u) (loop .v) found
           (c .larger .result) lanes (omega arith) (c .before .largest .ensures) (c .larger .ensures) raised (loop .inv .4),

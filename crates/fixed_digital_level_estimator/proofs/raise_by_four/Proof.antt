@@ -46,8 +46,16 @@ returns c =
     let four = eight .before .before .before .before in
     let known = four .before .before .before .before .before .before .before .before in
     let start = known .before in
-    rw (four .before .before .before .larger .ensures, four .before .before .larger2 .ensures, four .before .larger3 .ensures, four .larger4 .ensures,
-    eight .before .before .before .smaller .ensures, eight .before .before .smaller2 .ensures, eight .before .smaller3 .ensures, eight .smaller4 .ensures)
+    rw (
+      four .before .before .before .larger .ensures,
+      four .before .before .larger2 .ensures,
+      four .before .larger3 .ensures,
+      four .larger4 .ensures,
+      eight .before .before .before .smaller .ensures,
+      eight .before .before .smaller2 .ensures,
+      eight .before .smaller3 .ensures,
+      eight .smaller4 .ensures,
+    )
     (raised-four (start .args .lanes) (start .args .block .now) (start .pre) (known .shared-slice-known .given))
 
 pub raise-by-four-spec : {M : Type 1} → statement M

@@ -307,9 +307,9 @@ raised-one l x f =
             up = λ (n : ℕ) (u : Below n l) (w : Each (Within n) (x ∷ [])).
                 record { a = A .least n (w .0 .plus) (u .a); b = u .b; c = u .c; d = u .d; e = E .least n (w .0 .minus) (u .e); f = u .f; g = u .g; h = u .h };
             down = λ (n : ℕ) (u : Below n (byOne l x)). (
-                  record { a = le-trans (A .second) (u .a); b = u .b; c = u .c; d = u .d; e = le-trans (E .second) (u .e); f = u .f; g = u .g; h = u .h },
-                  (reached n x (l .a) (l .e) X A E (u .a) (u .e), tt),
-                );
+              record { a = le-trans (A .second) (u .a); b = u .b; c = u .c; d = u .d; e = le-trans (E .second) (u .e); f = u .f; g = u .g; h = u .h },
+              (reached n x (l .a) (l .e) X A E (u .a) (u .e), tt),
+            );
           };
     }
 
@@ -372,19 +372,21 @@ four l w x y z fw fx fy fz =
                   h = H .least n (i .1 .1 .1 .0 .minus) (u .h);
                 };
             down = λ (n : ℕ) (u : Below n (byFour l w x y z)). (
-                  record {
-                    a = le-trans (A .second) (u .a);
-                    b = le-trans (B .second) (u .b);
-                    c = le-trans (C .second) (u .c);
-                    d = le-trans (D .second) (u .d);
-                    e = le-trans (E .second) (u .e);
-                    f = le-trans (F .second) (u .f);
-                    g = le-trans (G .second) (u .g);
-                    h = le-trans (H .second) (u .h);
-                  },
-                  (reached n w (l .a) (l .e) W A E (u .a) (u .e),
-                  (reached n x (l .b) (l .f) X B F (u .b) (u .f), (reached n y (l .c) (l .g) Y C G (u .c) (u .g), (reached n z (l .d) (l .h) Z D H (u .d) (u .h), tt)))),
-                );
+              record {
+                a = le-trans (A .second) (u .a);
+                b = le-trans (B .second) (u .b);
+                c = le-trans (C .second) (u .c);
+                d = le-trans (D .second) (u .d);
+                e = le-trans (E .second) (u .e);
+                f = le-trans (F .second) (u .f);
+                g = le-trans (G .second) (u .g);
+                h = le-trans (H .second) (u .h);
+              },
+              (
+                reached n w (l .a) (l .e) W A E (u .a) (u .e),
+                (reached n x (l .b) (l .f) X B F (u .b) (u .f), (reached n y (l .c) (l .g) Y C G (u .c) (u .g), (reached n z (l .d) (l .h) Z D H (u .d) (u .h), tt))),
+              ),
+            );
           };
     }
 
