@@ -2,6 +2,7 @@
 use mathlib.Core.Path.{_≡_, refl}
 use mathlib.Core.Logic.{_⊎_, inl, inr}
 use mathlib.Core.Bool.{Bool, true, false, _&&_, _||_, not}
+use mathlib.Core.List.{[], _∷_}
 use Prim.Native.Nat.{ℕ, _+_, _≤_}
 use native.Mathlib.Omega.{arith}
 use lib.Dec.{T}
@@ -13,7 +14,7 @@ use Rattle.rounding.specs.Laws.Order.{between, le-box}
 use Rattle.rounding.specs.Laws.Exact.{constant-number}
 use Rattle.floats.specs.Kinds.{isNegativeZero}
 use Rattle.floats.specs.Laws.Kinds.{passed, nought-value}
-use Rattle.frames.specs.Facts.{and-first, and-second, each-of-five}
+use Rattle.lists.specs.Tests.{each-of}
 use Rattle.intervals.specs.Interval.{Box, Boxed}
 use Rattle.units.specs.Ranges.{closed, above}
 use Rattle.units.specs.Figures as Figures
@@ -22,11 +23,6 @@ use Rattle.units.specs.declared.settings.Settings.{Settings as Set}
 use Rattle.adaptive_digital_gain_controller.specs.Controller.{accepted}
 use Rattle.adaptive_digital_gain_controller.specs.Range.{zero, HeldSettings, HeldInfo}
 use Rattle.adaptive_digital_gain_controller.specs.declared.Info.{Info}
-
--- a test that passed is true
-pub is-true : (b : Bool) → T b → b ≡ true
-is-true true t = refl
-is-true false t = absurd t
 
 -- what is below is at or below
 lt-le : (x y : Float) → T (lt x y) → T (le x y)
@@ -51,8 +47,9 @@ module _ (a b : ℕ) (l : T (finite (ofBits binary32 a))) (h : T (finite (ofBits
   closed-box t c =
       let low = ofBits binary32 a in
       let high = ofBits binary32 b in
-      let p = passed (and-first (le low x) (le x high) c) in
-      let q = passed (and-second (le low x) (le x high) c) in
+      let both = each-of (le low x ∷ le x high ∷ []) c in
+      let p = passed (both 0) in
+      let q = passed (both 1) in
       boxed (le-box low high x (constant-number a l) (constant-number b h) (between low high x (constant-number a l) (constant-number b h) t p q) p q)
 
   -- So does one above the first.
@@ -60,13 +57,14 @@ module _ (a b : ℕ) (l : T (finite (ofBits binary32 a))) (h : T (finite (ofBits
   above-box t c =
       let low = ofBits binary32 a in
       let high = ofBits binary32 b in
-      let p = lt-le low x (passed (and-first (lt low x) (le x high) c)) in
-      let q = passed (and-second (lt low x) (le x high) c) in
+      let both = each-of (lt low x ∷ le x high ∷ []) c in
+      let p = lt-le low x (passed (both 0)) in
+      let q = passed (both 1) in
       boxed (le-box low high x (constant-number a l) (constant-number b h) (between low high x (constant-number a l) (constant-number b h) t p q) p q)
 
   -- And so does a setting.
   pub setting-box : T (fits binary32 x) → Settings.setting (ofBits binary32 a) x (ofBits binary32 b) ≡ true → Boxed (from-to a b) x
-  setting-box t c = closed-box t (and-first (closed (ofBits binary32 a) x (ofBits binary32 b)) (not (isNegativeZero x)) c)
+  setting-box t c = closed-box t (each-of (closed (ofBits binary32 a) x (ofBits binary32 b) ∷ not (isNegativeZero x) ∷ []) c 0)
 
 -- a number that has no units below zero, and at most c above it
 pub record Above (c : ℕ) (x : Float) : Type 0 where
@@ -100,18 +98,19 @@ pub record InSettings (s : Set) : Type 0 where
 pub in-settings : (s : Set) → HeldSettings s → Settings.accepted s ≡ true → InSettings s
 unfolding Settings.accepted ofBits
 in-settings s t h =
-    let a = Settings.setting (ofBits binary32 0x0000_0000) (s .headroom .0) (ofBits binary32 0x4248_0000) in
-    let b = above (ofBits binary32 0x0000_0000) (s .largest .0) (ofBits binary32 0x4248_0000) in
-    let c = Settings.setting (ofBits binary32 0x0000_0000) (s .initial .0) (ofBits binary32 0x4248_0000) in
-    let d = Settings.setting (ofBits binary32 0x3c23_d70a) (s .change) (ofBits binary32 0x42c8_0000) in
-    let e = Settings.setting (ofBits binary32 0xc2b4_0000) (s .noise .0) (ofBits binary32 0x0000_0000) in
-    let p = each-of-five a b c d e h in
+    let p = each-of
+        (Settings.setting (ofBits binary32 0x0000_0000) (s .headroom .0) (ofBits binary32 0x4248_0000)
+        ∷ above (ofBits binary32 0x0000_0000) (s .largest .0) (ofBits binary32 0x4248_0000)
+        ∷ Settings.setting (ofBits binary32 0x0000_0000) (s .initial .0) (ofBits binary32 0x4248_0000)
+        ∷ Settings.setting (ofBits binary32 0x3c23_d70a) (s .change) (ofBits binary32 0x42c8_0000)
+        ∷ Settings.setting (ofBits binary32 0xc2b4_0000) (s .noise .0) (ofBits binary32 0x0000_0000)
+        ∷ []) h in
     record {
-      headroom = setting-box 0x0000_0000 0x4248_0000 tt tt (s .headroom .0) (t .headroom) (p .0);
-      largest = above-box 0x0000_0000 0x4248_0000 tt tt (s .largest .0) (t .largest) (p .1);
-      initial = setting-box 0x0000_0000 0x4248_0000 tt tt (s .initial .0) (t .initial) (p .2);
-      change = setting-box 0x3c23_d70a 0x42c8_0000 tt tt (s .change) (t .change) (p .3);
-      noise = setting-box 0xc2b4_0000 0x0000_0000 tt tt (s .noise .0) (t .noise) (p .4);
+      headroom = setting-box 0x0000_0000 0x4248_0000 tt tt (s .headroom .0) (t .headroom) (p 0);
+      largest = above-box 0x0000_0000 0x4248_0000 tt tt (s .largest .0) (t .largest) (p 1);
+      initial = setting-box 0x0000_0000 0x4248_0000 tt tt (s .initial .0) (t .initial) (p 2);
+      change = setting-box 0x3c23_d70a 0x42c8_0000 tt tt (s .change) (t .change) (p 3);
+      noise = setting-box 0xc2b4_0000 0x0000_0000 tt tt (s .noise .0) (t .noise) (p 4);
     }
 
 -- where the figures lie
@@ -125,15 +124,10 @@ pub record InFigures (i : Info) : Type 0 where
 pub in-figures : (i : Info) → HeldInfo i → accepted i ≡ true → InFigures i
 unfolding accepted ofBits
 in-figures i k h =
-    let a = Figures.probability (i .probability) in
-    let b = Figures.level (i .level .0) in
-    let c = Figures.level (i .noise .0) in
-    let d = Figures.headroom (i .headroom .0) in
-    let e = Figures.envelope (i .envelope .0) in
-    let p = each-of-five a b c d e h in
+    let p = each-of (Figures.probability (i .probability) ∷ Figures.level (i .level .0) ∷ Figures.level (i .noise .0) ∷ Figures.headroom (i .headroom .0) ∷ Figures.envelope (i .envelope .0) ∷ []) h in
     record {
-      level = closed-box 0xc316_0000 0x4248_0000 tt tt (i .level .0) (k .level) (p .1);
-      noise = closed-box 0xc316_0000 0x4248_0000 tt tt (i .noise .0) (k .noise) (p .2);
-      headroom = above-box 0x0000_0000 0x42c8_0000 tt tt (i .headroom .0) (k .headroom) (p .3);
-      envelope = closed-box 0xc316_0000 0x42c8_0000 tt tt (i .envelope .0) (k .envelope) (p .4);
+      level = closed-box 0xc316_0000 0x4248_0000 tt tt (i .level .0) (k .level) (p 1);
+      noise = closed-box 0xc316_0000 0x4248_0000 tt tt (i .noise .0) (k .noise) (p 2);
+      headroom = above-box 0x0000_0000 0x42c8_0000 tt tt (i .headroom .0) (k .headroom) (p 3);
+      envelope = closed-box 0xc316_0000 0x42c8_0000 tt tt (i .envelope .0) (k .envelope) (p 4);
     }

@@ -2,19 +2,20 @@
 -- and what is handed on is within 33554432. Of what comes in it is only asked that its floats are f32, which the borrow checker knows.
 use mathlib.Core.Path.{_≡_, refl, sym, ap, ap₂, _∙_, subst}
 use mathlib.Core.Bool.{Bool, true, false, _&&_}
-use mathlib.Core.List.{List}
+use mathlib.Core.List.{List, [], _∷_}
 use Prim.Native.Nat.{ℕ, _<_}
 use native.Mathlib.Omega.{arith}
 use borrow.Author.Tests.{ne-eqb, le-leb}
 use lib.ListN.{length}
 use lib.Ieee.{Float, le}
+use Rattle.lists.specs.Tests.{each-of}
 use Rattle.units.specs.Replies.{done, refusal}
 use Rattle.units.specs.Settings as Settings
 use Rattle.units.specs.declared.settings.Settings.{Settings as Set}
 use Rattle.frames.specs.Shape.{isShape}
 use Rattle.frames.specs.Samples.{largestInput, largestLevel, allWithin}
 use Rattle.frames.specs.Refusal.{frameRefusal}
-use Rattle.frames.specs.Facts.{and-first, and-second, Taken, taken, not-refused}
+use Rattle.frames.specs.Facts.{Taken, taken, not-refused}
 use Rattle.decibels.specs.Ratio.{answer}
 use Rattle.gain_applier.specs.Applier as Applier
 use Rattle.gain_applier.specs.Range.{Held}
@@ -43,7 +44,8 @@ module _ (s : Set) (t : ℕ) (h : HeldSettings s) where
   fresh-ready : Settings.accepted s && Settings.threshold t ≡ true → Ready (fresh s t)
   unfolding fresh Applier.made Applier.starting
   fresh-ready ok =
-      let a = and-first (Settings.accepted s) (Settings.threshold t) ok in
+      let tests = each-of (Settings.accepted s ∷ Settings.threshold t ∷ []) ok in
+      let a = tests 0 in
       let b = in-settings s h a in
       let g = initial-passes (s .initial .0) (b .initial) in
       let f = factor-stays (s .initial .0) (h .initial) g in
@@ -55,7 +57,7 @@ module _ (s : Set) (t : ℕ) (h : HeldSettings s) where
         state = passing (record { applier = Applier.starting false (answer (s .initial .0) .ratio); settings = s; threshold = t; change = perFrame (s .change); waiting = t; gain = s .initial .0 })
             (record {
               settings = a;
-              threshold = and-second (Settings.accepted s) (Settings.threshold t) ok;
+              threshold = tests 1;
               change = equals-itself (perFrame (s .change)) y;
               waiting = le-leb t t (omega arith);
               gain = g;

@@ -8,9 +8,10 @@ use native.Mathlib.Nat.{eq-or-lt-of-le, mod-lt}
 use native.Mathlib.Omega.{arith}
 use lib.Dec.{T, leb, le→leb, lit<}
 use lib.Ieee.{Float, nan, binary32, ofBits, ofInt, add, sub, mul, neg, le, lt, eq, fits, size as bits}
-use lib.Ieee.Fits.{and-l, and-r}
+use lib.Ieee.Bits.{is-true}
 use lib.Ieee.Scale.{finite}
 use Rattle.lists.specs.Table.{at}
+use Rattle.lists.specs.Tests.{each-passed, _and_}
 use Rattle.rounding.specs.Units.{U, size, P, N, Number, Value, In}
 use Rattle.rounding.specs.Laws.Order.{le-box, le→units, units→le, units→lt}
 use Rattle.rounding.specs.Laws.Whole.{U-pos}
@@ -25,7 +26,7 @@ use Rattle.decibels.specs.Ratio.{wholeBits, sixteenthBits, A, B, steps, rest, r
 use Rattle.decibels.specs.Laws.Split.{Split, split, accepted, steps-most}
 use Rattle.adaptive_digital_gain_controller.specs.Controller.{largest}
 use Rattle.adaptive_digital_gain_controller.specs.Range.{zero, Factor}
-use Rattle.adaptive_digital_gain_controller.specs.Laws.Boxes.{is-true, from-to, boxed}
+use Rattle.adaptive_digital_gain_controller.specs.Laws.Boxes.{from-to, boxed}
 
 -- ---- the entries of the tables: up to the 50th whole dB from 1 to 316.22775, the sixteenths from 1 to 1.1139739
 abbrev entry : ℕ → ℕ → Float → Bool
@@ -35,11 +36,8 @@ entry-box : (a b : ℕ) → T (finite (ofBits binary32 a)) → T (finite (ofBits
 entry-box a b l h x t =
     let low = ofBits binary32 a in
     let high = ofBits binary32 b in
-    let three = and-l (finite x && fits binary32 x && le low x) (le x high) t in
-    let two = and-l (finite x && fits binary32 x) (le low x) three in
-    boxed a b l h x
-    (le-box low high x (constant-number a l) (constant-number b h) (record { real = and-l (finite x) (fits binary32 x) two; held = and-r (finite x) (fits binary32 x) two })
-    (and-r (finite x && fits binary32 x) (le low x) three) (and-r (finite x && fits binary32 x && le low x) (le x high) t))
+    let p = each-passed (finite x ∷ fits binary32 x ∷ le low x ∷ le x high ∷ []) t in
+    boxed a b l h x (le-box low high x (constant-number a l) (constant-number b h) (record { real = p 0; held = p 1 }) (p 2) (p 3))
 
 -- the last whole dB, 51, is left out
 all-but-last : ℕ → Float → Bool
@@ -186,7 +184,7 @@ factor-passes x f =
     let e = end-value in
     let a = units→lt zero x (constant-number 0x0000_0000 tt) n (low (P x) (N x) (P zero) (N zero) (P (ofBits binary32 0x3f80_0000)) (N (ofBits binary32 0x3f80_0000)) U (z .plus) (z .minus) (o .plus) (o .minus) U-pos (f .above)) in
     let b = units→lt x (ofBits binary32 0x4400_0000) n (e .number) (high (P x) (N x) (P (ofBits binary32 0x4400_0000)) (N (ofBits binary32 0x4400_0000)) (P largest) (N largest) U (e .plus) (e .minus) (l .plus) (l .minus) U-pos (f .below)) in
-    (rw (is-true (lt zero x) a, is-true (lt x (ofBits binary32 0x4400_0000)) b), is-true (le x largest) (units→le x largest n (l .number) (f .below)))
+    (is-true (lt zero x) a and is-true (lt x (ofBits binary32 0x4400_0000)) b, is-true (le x largest) (units→le x largest n (l .number) (f .below)))
   where
     low : (p n q m r s u : ℕ) → q ≡ 0 → m ≡ 0 → r ≡ u → s ≡ 0 → 0 < u → r + n ≤ p + s → q + n < p + m
     low p n q m r s u i j k l o h = omega arith

@@ -1,14 +1,16 @@
 -- A state that passes, given accepted figures, decides on a state that passes: its gain lies from 0 to 51, its factor from 1 to 355.
 use mathlib.Core.Path.{_≡_}
 use mathlib.Core.Bool.{Bool, true, false, _&&_, cond}
+use mathlib.Core.List.{[], _∷_}
 use Prim.Native.Nat.{ℕ, _-_, _≤_, _<_}
 use native.Mathlib.Omega.{arith}
 use borrow.Author.Tests.{leb-true, le-leb, ne-eqb}
 use lib.Dec.{T, leb, ltb, eqb}
 use lib.Ieee.{Float, binary32, ofBits, add, eq, ne, le, lt, fits, size as bits}
+use lib.Ieee.Bits.{is-true}
 use Rattle.rounding.specs.Laws.Order.{le→units, units→le}
 use Rattle.rounding.specs.Laws.Exact.{constant-number}
-use Rattle.frames.specs.Facts.{and-first, and-second}
+use Rattle.lists.specs.Tests.{each-of, _and_}
 use Rattle.intervals.specs.Interval.{Boxed}
 use Rattle.intervals.specs.Laws.Choice.{leq-trans}
 use Rattle.units.specs.Figures as Figures
@@ -23,7 +25,7 @@ use Rattle.adaptive_digital_gain_controller.specs.Change.{perFrame, wait
 use Rattle.adaptive_digital_gain_controller.specs.Controller.{accepted, largest, passes, aimed, decided}
 use Rattle.adaptive_digital_gain_controller.specs.Calls.{with-applier}
 use Rattle.adaptive_digital_gain_controller.specs.Range.{zero, Goal, Gain, HeldInfo, HeldState, Ready}
-use Rattle.adaptive_digital_gain_controller.specs.Laws.Boxes.{is-true, from-to, closed-box, InSettings, in-settings, in-figures}
+use Rattle.adaptive_digital_gain_controller.specs.Laws.Boxes.{from-to, closed-box, InSettings, in-settings, in-figures}
 use Rattle.adaptive_digital_gain_controller.specs.Laws.Target.{target-in-range}
 use Rattle.adaptive_digital_gain_controller.specs.Laws.Change.{Step, change-step, rise-step, frame-box, equal-box, stays, held-down}
 use Rattle.adaptive_digital_gain_controller.specs.Laws.Factor.{factor-stays, factor-passes}
@@ -45,42 +47,26 @@ pub record Passed (c : Controller) : Type 0 where
 pub passed-all : (c : Controller) → passes c ≡ true → Passed c
 unfolding passes
 passed-all c h =
-    let t1 = Settings.accepted (c .settings) in
-    let t2 = Settings.threshold (c .threshold) in
-    let t3 = eq (c .change) (perFrame (c .settings .change)) in
-    let t4 = leb (c .waiting) (c .threshold) in
-    let t5 = Figures.gain (c .gain) in
-    let t6 = Applier.passes (c .applier) in
-    let t7 = le (c .applier .last) largest in
-    let t8 = le (c .applier .current) largest in
-    let a7 = and-first (t1 && t2 && t3 && t4 && t5 && t6 && t7) t8 h in
-    let a6 = and-first (t1 && t2 && t3 && t4 && t5 && t6) t7 a7 in
-    let a5 = and-first (t1 && t2 && t3 && t4 && t5) t6 a6 in
-    let a4 = and-first (t1 && t2 && t3 && t4) t5 a5 in
-    let a3 = and-first (t1 && t2 && t3) t4 a4 in
-    let a2 = and-first (t1 && t2) t3 a3 in
-    record {
-      settings = and-first t1 t2 a2;
-      threshold = and-second t1 t2 a2;
-      change = and-second (t1 && t2) t3 a3;
-      waiting = and-second (t1 && t2 && t3) t4 a4;
-      gain = and-second (t1 && t2 && t3 && t4) t5 a5;
-      applier = and-second (t1 && t2 && t3 && t4 && t5) t6 a6;
-      last = and-second (t1 && t2 && t3 && t4 && t5 && t6) t7 a7;
-      current = and-second (t1 && t2 && t3 && t4 && t5 && t6 && t7) t8 h;
-    }
+    let p = each-of
+        (Settings.accepted (c .settings)
+        ∷ Settings.threshold (c .threshold)
+        ∷ eq (c .change) (perFrame (c .settings .change))
+        ∷ leb (c .waiting) (c .threshold)
+        ∷ Figures.gain (c .gain)
+        ∷ Applier.passes (c .applier)
+        ∷ le (c .applier .last) largest
+        ∷ le (c .applier .current) largest
+        ∷ []) h in
+    record { settings = p 0; threshold = p 1; change = p 2; waiting = p 3; gain = p 4; applier = p 5; last = p 6; current = p 7 }
 
 -- And what has passed all eight passes.
 pub passing : (c : Controller) → Passed c → passes c ≡ true
 unfolding passes
-passing c p = all (p .settings) (p .threshold) (p .change) (p .waiting) (p .gain) (p .applier) (p .last) (p .current)
-  where
-    all : {a b d e f g h i : Bool} → a ≡ true → b ≡ true → d ≡ true → e ≡ true → f ≡ true → g ≡ true → h ≡ true → i ≡ true → a && b && d && e && f && g && h && i ≡ true
-    all p q r s t u v w = rw (p, q, r, s, t, u, v, w)
+passing c p = p .settings and p .threshold and p .change and p .waiting and p .gain and p .applier and p .last and p .current
 
 -- A threshold that passes is at most 200.
 pub threshold-most : (n : ℕ) → Settings.threshold n ≡ true → n ≤ 200
-threshold-most n h = leb-true n 200 (and-second (leb 1 n) (leb n 200) h)
+threshold-most n h = leb-true n 200 (each-of (leb 1 n ∷ leb n 200 ∷ []) h 1)
 
 -- A gain that passes lies from 0 to 51.
 pub gain-in : (x : Float) → T (fits binary32 x) → Figures.gain x ≡ true → Gain x
@@ -92,7 +78,7 @@ pub gain-passes : (x : Float) → Gain x → Figures.gain x ≡ true
 unfolding ofBits
 gain-passes x g =
     let top = ofBits binary32 0x424c_0000 in
-    rw (is-true (le zero x) (units→le zero x (constant-number 0x0000_0000 tt) (g .number) (g .above)), is-true (le x top) (units→le x top (g .number) (constant-number 0x424c_0000 tt) (g .below)))
+    is-true (le zero x) (units→le zero x (constant-number 0x0000_0000 tt) (g .number) (g .above)) and is-true (le x top) (units→le x top (g .number) (constant-number 0x424c_0000 tt) (g .below))
 
 -- An initial gain that is accepted passes.
 pub initial-passes : (x : Float) → Boxed (from-to 0x0000_0000 0x4248_0000) x → Figures.gain x ≡ true
