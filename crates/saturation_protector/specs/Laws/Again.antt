@@ -2,15 +2,17 @@
 -- Assumes nothing.
 use mathlib.Core.Path.{_≡_, refl}
 use mathlib.Core.Bool.{Bool, true, false, _&&_, cond}
+use mathlib.Core.List.{[], _∷_}
 use Prim.Native.Nat.{ℕ, _≤_}
 use native.Mathlib.Omega.{arith}
 use lib.Ieee.{Float}
+use Rattle.lists.specs.Tests.{each-of}
 use Rattle.units.specs.Figures.{probability, level, headroom}
 use Rattle.units.specs.Settings.{threshold}
 use Rattle.units.specs.Replies.{done}
 use Rattle.runs.specs.Runs.{speech, longer, turned}
 use Rattle.runs.specs.Laws.Counts.{longer-most}
-use Rattle.saturation_protector_buffer.specs.Laws.Tests.{both, done-both}
+use Rattle.saturation_protector_buffer.specs.Laws.Tests.{done-both}
 use Rattle.saturation_protector.specs.Peaks as Peaks
 use Rattle.saturation_protector.specs.Protector.{passes, fresh, again, analyzed}
 use Rattle.saturation_protector.specs.Calls.{made, figures, stepped, reset, told}
@@ -105,9 +107,8 @@ pub stepped-passes : (s : Protector) (p peak speechLevel : Float) → stepped s 
     → passes (stepped s p peak speechLevel .protector) ≡ true
 stepped-passes s p peak speechLevel h =
     let k = accepted s p peak speechLevel h in
-    let two = both (probability p && level peak) (level speechLevel) (k .1) in
-    rw (stepped-analyzed s p peak speechLevel (k .0) (k .1))
-    (analyzed-passes s p peak speechLevel (k .0) (both (probability p) (level peak) (two .0) .1) (two .1))
+    let q = each-of (probability p ∷ level peak ∷ level speechLevel ∷ []) (k .1) in
+    rw (stepped-analyzed s p peak speechLevel (k .0) (k .1)) (analyzed-passes s p peak speechLevel (k .0) (q 1) (q 2))
 
 -- After a reset that is not refused the protector passes.
 pub reset-passes : (s : Protector) → reset s .reply ≡ done → passes (reset s .protector) ≡ true

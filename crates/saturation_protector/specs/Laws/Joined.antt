@@ -10,12 +10,12 @@ use lib.ListN.{length}
 use lib.Ieee.{Float}
 use borrow.Author.Tests.{ltb-true, ltb-false}
 use Rattle.lists.specs.Each.{Each}
+use Rattle.lists.specs.Tests.{each-of}
 use Rattle.units.specs.Figures.{probability, level}
 use Rattle.runs.specs.Runs.{speech, framed, Run}
 use Rattle.runs.specs.Histories.{after, advancedBy, AllSpeech}
 use Rattle.runs.specs.Laws.Counts.{held, held-below, held-at}
 use Rattle.runs.specs.Laws.Short.{after-speech}
-use Rattle.saturation_protector_buffer.specs.Laws.Tests.{both}
 use Rattle.saturation_protector.specs.Peaks as Peaks
 use Rattle.saturation_protector.specs.Protector.{run, passes, analyzed}
 use Rattle.saturation_protector.specs.Calls.{figures, stepped}
@@ -46,12 +46,8 @@ pub record Kept (s r : Protector) : Type 0 where
 pub one-kept : (s : Protector) (f : Figures) → passes s ≡ true → InRange f → Kept s (analyzed s (f .probability) (f .peak) (f .level))
 unfolding analyzed
 one-kept s f h k =
-    let two = both (probability (f .probability) && level (f .peak)) (level (f .level)) k in
-    record {
-      state = analyzed-passes s (f .probability) (f .peak) (f .level) h (both (probability (f .probability)) (level (f .peak)) (two .0) .1) (two .1);
-      initial = refl;
-      threshold = refl;
-    }
+    let p = each-of (probability (f .probability) ∷ level (f .peak) ∷ level (f .level) ∷ []) k in
+    record { state = analyzed-passes s (f .probability) (f .peak) (f .level) h (p 1) (p 2); initial = refl; threshold = refl }
 
 -- the first of accepted frames, and then the others
 pub heard-next : (s : Protector) (f : Figures) (fs : List Figures) → passes s ≡ true → InRange f

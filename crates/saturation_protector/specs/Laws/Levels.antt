@@ -7,10 +7,10 @@ use Prim.Native.Nat.{ℕ, zero, suc}
 use lib.ListN.{set, take, drop}
 use lib.Ieee.{Float, ofBits, le, lt, eq}
 use Rattle.lists.specs.Each.{Each, each-take, each-drop, each-append}
+use Rattle.lists.specs.Tests.{each-of, _and_}
 use Rattle.units.specs.Figures.{level}
 use Rattle.saturation_protector_buffer.specs.Rings as Rings
 use Rattle.saturation_protector_buffer.specs.Ring.{capacity, empty, items}
-use Rattle.saturation_protector_buffer.specs.Laws.Tests.{both, each}
 use Rattle.saturation_protector_buffer.specs.declared.Ring.{Ring}
 use Rattle.saturation_protector.specs.Peaks.{allLevels, lowest, oldestOr}
 
@@ -22,16 +22,16 @@ Level x = level x ≡ true
 pub levels-each : (xs : List Float) → allLevels xs ≡ true → Each Level xs
 unfolding allLevels Each
 levels-each [] h = tt
-levels-each (x ∷ xs) h = let two = both (level x) (allLevels xs) h in (two .0, levels-each xs (two .1))
+levels-each (x ∷ xs) h = let p = each-of (level x ∷ allLevels xs ∷ []) h in (p 0, levels-each xs (p 1))
 
 -- A level stored anywhere leaves all levels.
 pub levels-set : (xs : List Float) (i : ℕ) (v : Float) → allLevels xs ≡ true → level v ≡ true → allLevels (set xs i v) ≡ true
 unfolding allLevels
 levels-set [] i v h k = refl
-levels-set (x ∷ xs) zero v h k = each k (both (level x) (allLevels xs) h .1)
+levels-set (x ∷ xs) zero v h k = k and each-of (level x ∷ allLevels xs ∷ []) h 1
 levels-set (x ∷ xs) (suc i) v h k =
-    let two = both (level x) (allLevels xs) h in
-    each (two .0) (levels-set xs i v (two .1) k)
+    let p = each-of (level x ∷ allLevels xs ∷ []) h in
+    p 0 and levels-set xs i v (p 1) k
 
 -- The storage of a new ring is all levels.
 pub empty-levels : allLevels (empty .stored) ≡ true

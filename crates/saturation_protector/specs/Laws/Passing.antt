@@ -7,13 +7,13 @@ use native.Mathlib.Omega.{arith}
 use lib.Dec.{ltb}
 use lib.Ieee.{Float, binary32, sub}
 use borrow.Author.Tests.{ltb-false, le-leb, eq-eqb}
+use Rattle.lists.specs.Tests.{_and_}
 use Rattle.rounding.specs.Units.{In}
 use Rattle.floats.specs.Choice.{larger}
 use Rattle.floats.specs.Laws.Kinds.{passed as so}
 use Rattle.units.specs.Figures.{level, headroom}
 use Rattle.saturation_protector_buffer.specs.Ring as Ring
 use Rattle.saturation_protector_buffer.specs.Laws.Passing as Rings
-use Rattle.saturation_protector_buffer.specs.Laws.Tests.{each}
 use Rattle.saturation_protector_buffer.specs.declared.Ring.{Ring as Stored}
 use Rattle.saturation_protector.specs.Peaks.{lowest, longest, frameTime, least, most, time, allLevels, oldestOr, starting, restarted, passes, advanced}
 use Rattle.saturation_protector.specs.declared.Peaks.{Peaks}
@@ -89,7 +89,7 @@ module _ (peak speechLevel : Float) (s : Peaks) (h : passes s ≡ true) (p : lev
       go true e = refl
       go false e =
           let tens = time-tens s h in
-          each (le-leb (s .elapsed + frameTime) longest (ltb-false longest (s .elapsed + frameTime) e)) (eq-eqb ((s .elapsed + frameTime) % 10) 0 (omega arith))
+          le-leb (s .elapsed + frameTime) longest (ltb-false longest (s .elapsed + frameTime) e) and eq-eqb ((s .elapsed + frameTime) % 10) 0 (omega arith)
 
   -- A state that passes, advanced by a peak and a level of the speech from -150 to 50, passes again.
   pub advanced-passes : passes (advanced peak speechLevel s) ≡ true

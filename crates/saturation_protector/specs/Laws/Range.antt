@@ -2,15 +2,18 @@
 -- Assumes nothing.
 use mathlib.Core.Path.{_≡_, refl, sym, ap, _∙_, subst}
 use mathlib.Core.Bool.{Bool, true, false, _&&_, _||_, cond, false≢true}
+use mathlib.Core.List.{[], _∷_}
 use Prim.Native.Nat.{ℕ, suc, _*_, _^_, _≤_, _<_}
 use native.Mathlib.Nat.{le-trans, le-of-eq, lt-of-le-of-lt, mul-assoc, mul-comm, mul-one, mul-le-mul-left, mul-le-mul-right, mul-pos}
 use native.Mathlib.Omega.{arith}
 use lib.IntN.{ℤ, negsuc}
 use lib.Dec.{T, ltb, eqb, lit<, lit≤}
 use lib.Ieee.{Float, nan, inf, fin, binary32, up, down, unlike, ofBits, add, sub, mul, neg, le, lt, eq, round, size as bits}
+use lib.Ieee.Bits.{is-true}
 use lib.Ieee.Fits.{down-pos, add-fits}
 use lib.Ieee.Scale.{finite}
 use borrow.Author.Tests.{ltb-true, eqb-true}
+use Rattle.lists.specs.Tests.{each-of, _and_}
 use Rattle.rounding.specs.Units.{U, limit, In, rnd}
 use Rattle.rounding.specs.Laws.Rnd.{rnd-mono, rnd-exact}
 use Rattle.rounding.specs.Laws.Exact.{constant-number}
@@ -18,7 +21,6 @@ use Rattle.rounding.specs.Laws.Operations.{rounded}
 use Rattle.rounding.specs.Laws.Order.{le→units, units→le, lt→units, units→lt}
 use Rattle.intervals.specs.Laws.Choice.{clamp-in}
 use Rattle.units.specs.Figures.{headroom}
-use Rattle.saturation_protector_buffer.specs.Laws.Tests.{both, each}
 use Rattle.saturation_protector.specs.Peaks.{attack, decay, least, most, stays, nearer}
 use Rattle.saturation_protector.specs.Laws.Nan.{Real, add-real, mul-real}
 
@@ -42,11 +44,11 @@ upto : (s : Bool) (m : ℕ) (e : ℤ) → headroom (fin s m e) ≡ true → m * 
 unfolding le lt eq ofBits
 upto true m e h = absurd (false≢true h)
 upto false m e h =
-    go (ltb (m * up e * 1) (100 * down e)) refl (both (lt (ofBits binary32 0x0000_0000) (fin false m e)) (le (fin false m e) (ofBits binary32 0x42c8_0000)) h .1)
+    go (ltb (m * up e * 1) (100 * down e)) refl (each-of (lt (ofBits binary32 0x0000_0000) (fin false m e) ∷ le (fin false m e) (ofBits binary32 0x42c8_0000) ∷ []) h 1)
   where
     go : (b : Bool) → ltb (m * up e * 1) (100 * down e) ≡ b → b || (eqb (m * up e * 1) (100 * down e) && true) ≡ true → m * up e ≤ 100 * down e
     go true k t = let l = ltb-true (m * up e * 1) (100 * down e) k in omega arith
-    go false k t = let l = eqb-true (m * up e * 1) (100 * down e) (both (eqb (m * up e * 1) (100 * down e)) true t .0) in omega arith
+    go false k t = let l = eqb-true (m * up e * 1) (100 * down e) (each-of (eqb (m * up e * 1) (100 * down e) ∷ true ∷ []) t 0) in omega arith
 
 no-headroom : headroom nan ≡ false
 unfolding le lt eq ofBits
@@ -135,10 +137,6 @@ room : T (le (ofBits binary32 0x41c8_0000) (ofBits binary32 0x42c8_0000))
 unfolding le lt eq ofBits
 room = tt
 
-is-true : (b : Bool) → T b → b ≡ true
-is-true true t = refl
-is-true false t = absurd t
-
 -- What lies from 12 to 25 is a headroom.
 pub in-headroom : (x : Float) → In least most x → headroom x ≡ true
 in-headroom x i =
@@ -150,6 +148,5 @@ in-headroom x i =
     let above = le→units most (ofBits binary32 0x42c8_0000) m h room in
     let one = i .above in
     let two = i .below in
-    each
-    (is-true (lt (ofBits binary32 0x0000_0000) x) (units→lt (ofBits binary32 0x0000_0000) x o (i .number) (omega arith)))
-    (is-true (le x (ofBits binary32 0x42c8_0000)) (units→le x (ofBits binary32 0x42c8_0000) (i .number) h (omega arith)))
+    is-true (lt (ofBits binary32 0x0000_0000) x) (units→lt (ofBits binary32 0x0000_0000) x o (i .number) (omega arith))
+    and is-true (le x (ofBits binary32 0x42c8_0000)) (units→le x (ofBits binary32 0x42c8_0000) (i .number) h (omega arith))

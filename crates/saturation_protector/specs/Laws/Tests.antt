@@ -2,16 +2,17 @@
 -- Assumes nothing.
 use mathlib.Core.Path.{_≡_, refl, sym, _∙_}
 use mathlib.Core.Bool.{Bool, true, false, _&&_, cond, false≢true}
+use mathlib.Core.List.{[], _∷_}
 use Prim.Native.Nat.{_≤_, _%_}
 use lib.Dec.{leb, eqb}
 use lib.Ieee.{Float, nan, inf, fin, ofBits, le, lt, eq}
 use lib.Ieee.Scale.{finite}
 use borrow.Author.Tests.{leb-true, eqb-true, le-leb}
+use Rattle.lists.specs.Tests.{each-of, _and_}
 use Rattle.units.specs.Figures.{level, headroom}
 use Rattle.units.specs.Settings.{threshold}
 use Rattle.floats.specs.Choice.{larger}
 use Rattle.saturation_protector_buffer.specs.Ring as Ring
-use Rattle.saturation_protector_buffer.specs.Laws.Tests.{both, each}
 use Rattle.saturation_protector.specs.Peaks as Peaks
 use Rattle.saturation_protector.specs.Peaks.{allLevels, time, longest}
 use Rattle.saturation_protector.specs.Protector as Protector
@@ -55,28 +56,21 @@ pub record Passed (s : State) : Type 0 where
 pub passed : (s : State) → Peaks.passes s ≡ true → Passed s
 unfolding Peaks.passes
 passed s h =
-    let a = headroom (s .headroom) in
-    let b = Ring.passes (s .ring) in
-    let c = allLevels (s .ring .stored) in
-    let d = level (s .largest) in
-    let four = both (a && b && c && d) (time (s .elapsed)) h in
-    let three = both (a && b && c) d (four .0) in
-    let two = both (a && b) c (three .0) in
-    let one = both a b (two .0) in
-    record { headroom = one .0; ring = one .1; stored = two .1; largest = three .1; time = four .1 }
+    let p = each-of (headroom (s .headroom) ∷ Ring.passes (s .ring) ∷ allLevels (s .ring .stored) ∷ level (s .largest) ∷ time (s .elapsed) ∷ []) h in
+    record { headroom = p 0; ring = p 1; stored = p 2; largest = p 3; time = p 4 }
 
 -- And what has all five passes.
 pub passing : (s : State) → Passed s → Peaks.passes s ≡ true
 unfolding Peaks.passes
-passing s p = each (each (each (each (p .headroom) (p .ring)) (p .stored)) (p .largest)) (p .time)
+passing s p = p .headroom and p .ring and p .stored and p .largest and p .time
 
 -- The time of a state that passes is at most 400 ms,
 pub time-most : (s : State) → Peaks.passes s ≡ true → s .elapsed ≤ longest
-time-most s h = leb-true (s .elapsed) longest (both (leb (s .elapsed) longest) (eqb (s .elapsed % 10) 0) (passed s h .time) .0)
+time-most s h = leb-true (s .elapsed) longest (each-of (leb (s .elapsed) longest ∷ eqb (s .elapsed % 10) 0 ∷ []) (passed s h .time) 0)
 
 -- and in tens.
 pub time-tens : (s : State) → Peaks.passes s ≡ true → s .elapsed % 10 ≡ 0
-time-tens s h = eqb-true (s .elapsed % 10) 0 (both (leb (s .elapsed) longest) (eqb (s .elapsed % 10) 0) (passed s h .time) .1)
+time-tens s h = eqb-true (s .elapsed % 10) 0 (each-of (leb (s .elapsed) longest ∷ eqb (s .elapsed % 10) 0 ∷ []) (passed s h .time) 1)
 
 -- ---- the protector
 pub record PassedWhole (s : Whole) : Type 0 where
@@ -91,27 +85,17 @@ pub record PassedWhole (s : Whole) : Type 0 where
 pub passed-whole : (s : Whole) → Protector.passes s ≡ true → PassedWhole s
 unfolding Protector.passes
 passed-whole s h =
-    let a = headroom (s .initial) in
-    let b = threshold (s .threshold) in
-    let c = leb (s .count) (s .threshold) in
-    let d = headroom (s .headroom) in
-    let e = Peaks.passes (s .preliminary) in
-    let five = both (a && b && c && d && e) (Peaks.passes (s .reliable)) h in
-    let four = both (a && b && c && d) e (five .0) in
-    let three = both (a && b && c) d (four .0) in
-    let two = both (a && b) c (three .0) in
-    let one = both a b (two .0) in
-    record {
-      initial = one .0;
-      threshold = one .1;
-      count = leb-true (s .count) (s .threshold) (two .1);
-      headroom = three .1;
-      preliminary = four .1;
-      reliable = five .1;
-    }
+    let p = each-of
+        (headroom (s .initial)
+        ∷ threshold (s .threshold)
+        ∷ leb (s .count) (s .threshold)
+        ∷ headroom (s .headroom)
+        ∷ Peaks.passes (s .preliminary)
+        ∷ Peaks.passes (s .reliable)
+        ∷ []) h in
+    record { initial = p 0; threshold = p 1; count = leb-true (s .count) (s .threshold) (p 2); headroom = p 3; preliminary = p 4; reliable = p 5 }
 
 -- And what has all six passes.
 pub passing-whole : (s : Whole) → PassedWhole s → Protector.passes s ≡ true
 unfolding Protector.passes
-passing-whole s p =
-    each (each (each (each (each (p .initial) (p .threshold)) (le-leb (s .count) (s .threshold) (p .count))) (p .headroom)) (p .preliminary)) (p .reliable)
+passing-whole s p = p .initial and p .threshold and le-leb (s .count) (s .threshold) (p .count) and p .headroom and p .preliminary and p .reliable

@@ -10,13 +10,14 @@ use lib.ListN.{set, replicate}
 use lib.Ieee.{Float, binary32, ofBits}
 use lib.Ieee.Scale.{finite}
 use borrow.Author.Tests.{ltb-true, leb-true, lt-ltb, le-leb}
+use Rattle.lists.specs.Tests.{each-of, _and_}
 use Rattle.units.specs.Replies.{done}
 use Rattle.saturation_protector_buffer.specs.Rings.{allFinite, fitsRing, after, more}
 use Rattle.saturation_protector_buffer.specs.Ring.{capacity, empty, passes, push, reset}
 use Rattle.saturation_protector_buffer.specs.Calls.{pushed, forgotten}
 use Rattle.saturation_protector_buffer.specs.Steps.{Within}
 use Rattle.saturation_protector_buffer.specs.declared.Ring.{Ring}
-use Rattle.saturation_protector_buffer.specs.Laws.Tests.{both, each, done-both}
+use Rattle.saturation_protector_buffer.specs.Laws.Tests.{done-both}
 use Rattle.saturation_protector_buffer.specs.Laws.Pushes.{after-inside, more-most}
 
 -- what a ring of n that passes has
@@ -30,28 +31,27 @@ module _ (n : ℕ) (stored : List Float) (place size : ℕ) where
   pub fitting : fitsRing n stored place size ≡ true → Fitting n stored place size
   unfolding fitsRing
   fitting h =
-      let all = both (ltb place n && leb size n) (allFinite stored) h in
-      let two = both (ltb place n) (leb size n) (all .0) in
-      record { inside = ltb-true place n (two .0); most = leb-true size n (two .1); numbers = all .1 }
+      let p = each-of (ltb place n ∷ leb size n ∷ allFinite stored ∷ []) h in
+      record { inside = ltb-true place n (p 0); most = leb-true size n (p 1); numbers = p 2 }
 
   pub fits : Fitting n stored place size → fitsRing n stored place size ≡ true
   unfolding fitsRing
-  fits f = each (each (lt-ltb place n (f .inside)) (le-leb size n (f .most))) (f .numbers)
+  fits f = lt-ltb place n (f .inside) and le-leb size n (f .most) and f .numbers
 
 -- A finite number stored anywhere leaves everything finite.
 pub finite-set : (xs : List Float) (i : ℕ) (v : Float) → allFinite xs ≡ true → finite v ≡ true → allFinite (set xs i v) ≡ true
 unfolding allFinite
 finite-set [] i v h f = refl
-finite-set (x ∷ xs) zero v h f = each f (both (finite x) (allFinite xs) h .1)
+finite-set (x ∷ xs) zero v h f = f and each-of (finite x ∷ allFinite xs ∷ []) h 1
 finite-set (x ∷ xs) (suc i) v h f =
-    let two = both (finite x) (allFinite xs) h in
-    each (two .0) (finite-set xs i v (two .1) f)
+    let p = each-of (finite x ∷ allFinite xs ∷ []) h in
+    p 0 and finite-set xs i v (p 1) f
 
 -- n times a finite number are finite.
 pub finite-replicate : (n : ℕ) (v : Float) → finite v ≡ true → allFinite (replicate n v) ≡ true
 unfolding allFinite
 finite-replicate zero v f = refl
-finite-replicate (suc n) v f = each f (finite-replicate n v f)
+finite-replicate (suc n) v f = f and finite-replicate n v f
 
 module _ (n : ℕ) (stored : List Float) (place size : ℕ) where
   -- New: a ring of n zeros, empty, passes.

@@ -10,6 +10,8 @@ use native.Mathlib.Omega.{arith}
 use lib.Dec.{T}
 use lib.ListN.{length, getD}
 use lib.Ieee.{Float, nan, eq}
+use lib.Ieee.Fits.{and-i}
+use Rattle.lists.specs.Tests.{each-passed}
 use Rattle.units.specs.Replies.{refusal, done}
 use Rattle.saturation_protector_buffer.specs.Rings.{sameItems}
 use Rattle.saturation_protector_buffer.specs.Ring.{passes, items}
@@ -20,14 +22,6 @@ use Rattle.saturation_protector_buffer.specs.declared.Ring.{Ring}
 pub record Alike (xs ys : List Float) : Type 0 where
   pub long : length xs ≡ length ys
   pub equal : (i : ℕ) → i < length xs → T (eq (getD xs i nan) (getD ys i nan))
-
-T-both : (a b : Bool) → T (a && b) → T a × T b
-T-both true b t = (tt, t)
-T-both false b t = absurd t
-
-T-each : (a b : Bool) → T a → T b → T (a && b)
-T-each true b s t = t
-T-each false b s t = s
 
 longer : (x y : Float) (xs ys : List Float) → T (eq x y) → Alike xs ys → Alike (x ∷ xs) (y ∷ ys)
 longer x y xs ys t a = record { long = ap suc (a .long); equal = at }
@@ -42,8 +36,8 @@ forth [] [] t = record { long = refl; equal = λ i h. absurd (not-suc-le-zero h)
 forth [] (y ∷ ys) t = absurd t
 forth (x ∷ xs) [] t = absurd t
 forth (x ∷ xs) (y ∷ ys) t =
-    let two = T-both (eq x y) (sameItems xs ys) t in
-    longer x y xs ys (two .0) (forth xs ys (two .1))
+    let p = each-passed (eq x y ∷ sameItems xs ys ∷ []) t in
+    longer x y xs ys (p 0) (forth xs ys (p 1))
 
 back : (xs ys : List Float) → Alike xs ys → T (sameItems xs ys)
 unfolding sameItems
@@ -51,7 +45,7 @@ back [] [] a = tt
 back [] (y ∷ ys) a = absurd (omega (arith, a .long))
 back (x ∷ xs) [] a = absurd (omega (arith, a .long))
 back (x ∷ xs) (y ∷ ys) a =
-    T-each (eq x y) (sameItems xs ys) (a .equal 0 (omega arith))
+    and-i (eq x y) (sameItems xs ys) (a .equal 0 (omega arith))
     (back xs ys (record { long = omega (arith, a .long); equal = λ i h. a .equal (suc i) (omega arith) }))
 
 -- The items are the same exactly where there are as many and each equals the other's at its index.

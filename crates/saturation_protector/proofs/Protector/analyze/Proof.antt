@@ -1,11 +1,12 @@
 -- `saturation_protector::Protector::analyze` meets its contract: a frame that is not refused has a state that passes and a peak in its range. Assumes nothing.
 use mathlib.Core.Bool.{Bool, true, false, _&&_}
+use mathlib.Core.List.{[], _∷_}
 use mathlib.Core.Path.{_≡_, sym, _∙_}
 use Prim.Native.Nat.{ℕ}
 use lib.Ieee.{Float}
+use Rattle.lists.specs.Tests.{each-of}
 use Rattle.units.specs.Figures.{probability, level}
 use Rattle.units.specs.Replies.{refusal}
-use Rattle.saturation_protector_buffer.specs.Laws.Tests.{both}
 use Rattle.saturation_protector.specs.Calls.{stepped}
 use Rattle.saturation_protector.specs.Protector.{passes, analyzed}
 use Rattle.saturation_protector.specs.declared.Protector.{Protector}
@@ -33,10 +34,9 @@ analyzed-requires : tie.Need-analyzed-requires
 analyzed-requires c κs =
     let tests = c .before .before in
     let p = tests .before .before .before .passes in
-    let three = both (p .result) _ (c .if1 .taken) in
-    let two = both _ (tests .is-level2 .result) (three .1) in
-    let peak = both (tests .before .before .is-probability .result) (tests .before .is-level .result) (two .0) in
-    (sym (p .ensures) ∙ three .0, sym (tests .before .is-level .ensures) ∙ peak .1)
+    let both = each-of (p .result ∷ _ ∷ []) (c .if1 .taken) in
+    let figures = each-of (tests .before .before .is-probability .result ∷ tests .before .is-level .result ∷ tests .is-level2 .result ∷ []) (both 1) in
+    (sym (p .ensures) ∙ both 0, sym (tests .before .is-level .ensures) ∙ figures 1)
 
 unchanged-requires : tie.Need-unchanged-requires
 unchanged-requires c κs = search needs

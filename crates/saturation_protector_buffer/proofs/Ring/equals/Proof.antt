@@ -1,8 +1,9 @@
 -- `saturation_protector_buffer::Ring::equals` meets its contract. Assumes nothing.
 use mathlib.Core.Path.{sym, _∙_}
+use mathlib.Core.List.{[], _∷_}
 use borrow.Author.Needs.{needs}
+use Rattle.lists.specs.Tests.{each-of}
 use Rattle.saturation_protector_buffer.specs.Calls.{compared}
-use Rattle.saturation_protector_buffer.specs.Laws.Tests.{both}
 use Rattle.saturation_protector_buffer.specs.Laws.Passing.{within}
 use Rattle.saturation_protector_buffer.proofs.Ring.equals.Statement.{statement}
 use Rattle.saturation_protector_buffer.proofs.Ring.equals.Tie as tie
@@ -21,8 +22,8 @@ same-items-requires c κs =
     let one = c .before .before .before .passes in
     let two = c .before .before .passes2 in
     let at = c .before .before .before .before .args in
-    let ok = both (one .result) (two .result) (c .if1 .taken) in
-    (within (at .self) (sym (one .ensures) ∙ ok .0), within (at .other) (sym (two .ensures) ∙ ok .1))
+    let ok = each-of (one .result ∷ two .result ∷ []) (c .if1 .taken) in
+    (within (at .self) (sym (one .ensures) ∙ ok 0), within (at .other) (sym (two .ensures) ∙ ok 1))
 
 returns : tie.Need-returns
 unfolding compared

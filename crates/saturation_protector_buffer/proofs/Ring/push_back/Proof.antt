@@ -1,8 +1,9 @@
 -- `saturation_protector_buffer::Ring::push_back` meets its contract. Assumes nothing.
 use mathlib.Core.Path.{sym, _∙_}
+use mathlib.Core.List.{[], _∷_}
 use borrow.Author.Needs.{needs}
+use Rattle.lists.specs.Tests.{each-of}
 use Rattle.saturation_protector_buffer.specs.Calls.{pushed}
-use Rattle.saturation_protector_buffer.specs.Laws.Tests.{both}
 use Rattle.saturation_protector_buffer.specs.Laws.Passing.{within}
 use Rattle.saturation_protector_buffer.proofs.Ring.push_back.Statement.{statement}
 use Rattle.saturation_protector_buffer.proofs.Ring.push_back.Tie as tie
@@ -19,7 +20,7 @@ refusal-requires c κs = search needs
 store-requires : tie.Need-store-requires
 store-requires c κs =
     let passes = c .before .before .before .passes in
-    within (c .before .before .before .before .args .self) (sym (passes .ensures) ∙ both (passes .result) _ (c .if1 .taken) .0)
+    within (c .before .before .before .before .args .self) (sym (passes .ensures) ∙ each-of (passes .result ∷ _ ∷ []) (c .if1 .taken) 0)
 
 returns : tie.Need-returns
 unfolding pushed
