@@ -2,11 +2,14 @@
 -- Assumes nothing.
 use mathlib.Core.Path.{_≡_, refl}
 use mathlib.Core.Bool.{Bool, true, false, _&&_, cond}
+use mathlib.Core.List.{[], _∷_}
 use Prim.Native.Nat.{ℕ, _≤_, zero-le}
 use native.Mathlib.Omega.{arith}
-use lib.Dec.{T, leb, leb→le, le→leb}
+use borrow.Author.Tests.{leb-true, le-leb}
+use lib.Dec.{T, leb}
 use lib.Ieee.{Float, binary32, fits, eq}
-use lib.Ieee.Fits.{and-i, and-l, and-r}
+use lib.Ieee.Bits.{is-true}
+use Rattle.lists.specs.Tests.{each-of, each-passed, _and_}
 use Rattle.floats.specs.Laws.Kinds.{passed as holds}
 use Rattle.units.specs.Figures.{rms, probability}
 use Rattle.units.specs.Ranges.{closed}
@@ -21,7 +24,7 @@ use Rattle.speech_level_estimator.specs.Estimator.{startingLevel, run, p
 use Rattle.speech_level_estimator.specs.Calls.{made, figures, stepped, restarted, levelTold}
 use Rattle.speech_level_estimator.specs.Held.{Held, HeldSettings, HeldEstimator}
 use Rattle.speech_level_estimator.specs.declared.Estimator.{Estimator}
-use Rattle.speech_level_estimator.specs.Laws.Facts.{so, one-value, Passed, passed, passing}
+use Rattle.speech_level_estimator.specs.Laws.Facts.{one-value, Passed, passed, passing}
 use Rattle.speech_level_estimator.specs.Laws.Advance.{advanced-passed, passed-held}
 use Rattle.speech_level_estimator.specs.Laws.Level.{lowest, highest, in-closed, level-in, starting-level-in, wider, equals-itself, equal-in, starting-passed}
 
@@ -44,65 +47,42 @@ framed-count false advance t r h = zero-le
 
 -- ---- what a state that passes has passed
 pub record Sound (e : Estimator) : Type 0 where
-  pub settings : T (accepted (e .settings))
-  pub threshold : T (threshold (e .threshold))
-  pub initial : T (eq (e .initial) (startingLevel (e .settings)))
-  pub level : T (closed lowest (e .level) highest)
-  pub count : T (leb (e .count) (e .threshold))
-  pub preliminary : T (Average.passes (e .preliminary))
-  pub reliable : T (Average.passes (e .reliable))
+  pub settings : accepted (e .settings) ≡ true
+  pub threshold : threshold (e .threshold) ≡ true
+  pub initial : eq (e .initial) (startingLevel (e .settings)) ≡ true
+  pub level : closed lowest (e .level) highest ≡ true
+  pub count : leb (e .count) (e .threshold) ≡ true
+  pub preliminary : Average.passes (e .preliminary) ≡ true
+  pub reliable : Average.passes (e .reliable) ≡ true
 
 -- What a state that passes has passed.
 pub sound : (e : Estimator) → passes e ≡ true → Sound e
 unfolding passes
 sound e h =
-    let a = accepted (e .settings) in
-    let b = threshold (e .threshold) in
-    let c = eq (e .initial) (startingLevel (e .settings)) in
-    let d = closed lowest (e .level) highest in
-    let f = leb (e .count) (e .threshold) in
-    let g = Average.passes (e .preliminary) in
-    let k = Average.passes (e .reliable) in
-    let t = holds h in
-    let t6 = and-l (a && b && c && d && f && g) k t in
-    let t5 = and-l (a && b && c && d && f) g t6 in
-    let t4 = and-l (a && b && c && d) f t5 in
-    let t3 = and-l (a && b && c) d t4 in
-    let t2 = and-l (a && b) c t3 in
-    record {
-      settings = and-l a b t2;
-      threshold = and-r a b t2;
-      initial = and-r (a && b) c t3;
-      level = and-r (a && b && c) d t4;
-      count = and-r (a && b && c && d) f t5;
-      preliminary = and-r (a && b && c && d && f) g t6;
-      reliable = and-r (a && b && c && d && f && g) k t;
-    }
+    let p = each-of
+        (accepted (e .settings)
+        ∷ threshold (e .threshold)
+        ∷ eq (e .initial) (startingLevel (e .settings))
+        ∷ closed lowest (e .level) highest
+        ∷ leb (e .count) (e .threshold)
+        ∷ Average.passes (e .preliminary)
+        ∷ Average.passes (e .reliable)
+        ∷ []) h in
+    record { settings = p 0; threshold = p 1; initial = p 2; level = p 3; count = p 4; preliminary = p 5; reliable = p 6 }
 
 -- And what has all seven passes.
 pub sounds : (e : Estimator) → Sound e → passes e ≡ true
 unfolding passes
-sounds e s =
-    let a = accepted (e .settings) in
-    let b = threshold (e .threshold) in
-    let c = eq (e .initial) (startingLevel (e .settings)) in
-    let d = closed lowest (e .level) highest in
-    let f = leb (e .count) (e .threshold) in
-    let g = Average.passes (e .preliminary) in
-    let k = Average.passes (e .reliable) in
-    so (passes e)
-    (and-i (a && b && c && d && f && g) k
-    (and-i (a && b && c && d && f) g (and-i (a && b && c && d) f (and-i (a && b && c) d (and-i (a && b) c (and-i a b (s .settings) (s .threshold)) (s .initial)) (s .level)) (s .count)) (s .preliminary))
-    (s .reliable))
+sounds e s = s .settings and s .threshold and s .initial and s .level and s .count and s .preliminary and s .reliable
 
 -- ---- at the start
 -- The state that accepted settings and a threshold in its range start with passes, with any starting level that equals theirs.
-pub fresh-passes : (s : Settings) (t : ℕ) (x : Float) → HeldSettings s → T (fits binary32 x) → T (accepted s) → T (threshold t) → T (eq x (startingLevel s)) → passes (fresh s t x) ≡ true
+pub fresh-passes : (s : Settings) (t : ℕ) (x : Float) → HeldSettings s → T (fits binary32 x) → accepted s ≡ true → threshold t ≡ true → eq x (startingLevel s) ≡ true → passes (fresh s t x) ≡ true
 unfolding fresh
 fresh-passes s t x held f a b c =
-    let i = wider x (equal-in x (startingLevel s) f c (starting-level-in s held a)) in
-    let p = holds (passing (Average.starting x) (starting-passed x i)) in
-    sounds (fresh s t x) (record { settings = a; threshold = b; initial = c; level = in-closed x i; count = le→leb 0 t zero-le; preliminary = p; reliable = p })
+    let i = wider x (equal-in x (startingLevel s) f (holds c) (starting-level-in s held (holds a))) in
+    let p = passing (Average.starting x) (starting-passed x i) in
+    sounds (fresh s t x) (record { settings = a; threshold = b; initial = c; level = is-true (closed lowest x highest) (in-closed x i); count = le-leb 0 t zero-le; preliminary = p; reliable = p })
 
 -- The starting level of accepted settings equals itself.
 pub starting-level-itself : (s : Settings) → HeldSettings s → T (accepted s) → T (eq (startingLevel s) (startingLevel s))
@@ -114,22 +94,22 @@ pub updated-passes : (e : Estimator) (r p : Float) → HeldEstimator e → T (fi
 unfolding updated
 updated-passes e r p held f g h t =
     let s = sound e h in
-    let l = and-l (rms r) (probability p) t in
-    let q = and-r (rms r) (probability p) t in
-    let pre = passed (e .preliminary) (held .preliminary) (so (Average.passes (e .preliminary)) (s .preliminary)) in
-    let rel = passed (e .reliable) (held .reliable) (so (Average.passes (e .reliable)) (s .reliable)) in
+    let q = each-passed (rms r ∷ probability p ∷ []) t in
+    let pre = passed (e .preliminary) (held .preliminary) (s .preliminary) in
+    let rel = passed (e .reliable) (held .reliable) (s .reliable) in
     let next = framed (speech p) (Average.advanced r p) (e .threshold) (run e) in
-    let both = framed-keeps Passed (speech p) (Average.advanced r p) (e .threshold) (run e) pre rel (λ (k : T (speech p)). advanced-passed (e .preliminary) r p pre f g l q k) in
+    let both = framed-keeps Passed (speech p) (Average.advanced r p) (e .threshold) (run e) pre rel (λ (k : T (speech p)). advanced-passed (e .preliminary) r p pre f g (q 0) (q 1) k) in
     sounds (updated e r p)
     (record {
       settings = s .settings;
       threshold = s .threshold;
       initial = s .initial;
       level =
-          either (λ (x : Float). T (closed lowest x highest)) (published (speech p) (e .threshold) (e .count)) (in-closed (Average.level (next .preliminary)) (level-in (next .preliminary) (both .0))) (s .level);
-      count = le→leb (next .count) (e .threshold) (framed-count (speech p) (Average.advanced r p) (e .threshold) (run e) (leb→le (e .count) (e .threshold) (s .count)));
-      preliminary = holds (passing (next .preliminary) (both .0));
-      reliable = holds (passing (next .reliable) (both .1));
+          either (λ (x : Float). closed lowest x highest ≡ true) (published (speech p) (e .threshold) (e .count))
+          (is-true (closed lowest (Average.level (next .preliminary)) highest) (in-closed (Average.level (next .preliminary)) (level-in (next .preliminary) (both .0)))) (s .level);
+      count = le-leb (next .count) (e .threshold) (framed-count (speech p) (Average.advanced r p) (e .threshold) (run e) (leb-true (e .count) (e .threshold) (s .count)));
+      preliminary = passing (next .preliminary) (both .0);
+      reliable = passing (next .reliable) (both .1);
     })
 
 -- ---- of the calls: where the reply is 0, the state that comes out passes
@@ -145,10 +125,10 @@ pub made-passes : (s : Settings) (t : ℕ) → HeldSettings s → made s t .repl
 unfolding made
 made-passes s t held h =
     let ok = two (accepted s && threshold t) true h .0 in
-    let a = and-l (accepted s) (threshold t) (holds ok) in
-    let b = and-r (accepted s) (threshold t) (holds ok) in
+    let p = each-of (accepted s ∷ threshold t ∷ []) ok in
+    let a = holds (p 0) in
     let x = starting-level-in s held a .number .held in
-    rw ok (fresh-passes s t (startingLevel s) held x a b (starting-level-itself s held a))
+    rw ok (fresh-passes s t (startingLevel s) held x (p 0) (p 1) (is-true (eq (startingLevel s) (startingLevel s)) (starting-level-itself s held a)))
 
 -- After a frame that is not refused the state passes.
 pub stepped-passes : (e : Estimator) (r p : Float) → HeldEstimator e → T (fits binary32 r) → T (fits binary32 p)
@@ -156,8 +136,7 @@ pub stepped-passes : (e : Estimator) (r p : Float) → HeldEstimator e → T (fi
 unfolding stepped
 stepped-passes e r p held f g h =
     let k = two (passes e) (figures r p) h in
-    let both = so (passes e && figures r p) (and-i (passes e) (figures r p) (holds (k .0)) (holds (k .1))) in
-    rw both (updated-passes e r p held f g (k .0) (holds (k .1)))
+    rw (k .0 and k .1) (updated-passes e r p held f g (k .0) (holds (k .1)))
 
 -- After a reset that is not refused the state passes.
 pub restarted-passes : (e : Estimator) → HeldEstimator e → restarted e .reply ≡ done → passes (restarted e .estimator) ≡ true
@@ -173,7 +152,7 @@ pub published-in-range : (e : Estimator) → levelTold e .reply ≡ done → clo
 unfolding levelTold
 published-in-range e h =
     let k = two (passes e) true h .0 in
-    rw k (so (closed lowest (e .level) highest) (sound e k .level))
+    rw k (sound e k .level)
 
 -- ---- and its numbers are f32
 fresh-held : (s : Settings) (t : ℕ) (x : Float) → HeldSettings s → T (fits binary32 x) → HeldEstimator (fresh s t x)
@@ -187,7 +166,7 @@ pub made-held : (s : Settings) (t : ℕ) → HeldSettings s → made s t .reply 
 unfolding made
 made-held s t held h =
     let ok = two (accepted s && threshold t) true h .0 in
-    rw ok (fresh-held s t (startingLevel s) held (starting-level-in s held (and-l (accepted s) (threshold t) (holds ok)) .number .held))
+    rw ok (fresh-held s t (startingLevel s) held (starting-level-in s held (holds (each-of (accepted s ∷ threshold t ∷ []) ok 0)) .number .held))
 
 -- and so they are after a frame
 pub stepped-held : (e : Estimator) (r p : Float) → HeldEstimator e → T (fits binary32 r) → T (fits binary32 p) → stepped e r p .reply ≡ done → HeldEstimator (stepped e r p .estimator)
@@ -195,13 +174,12 @@ unfolding stepped updated
 stepped-held e r p held f g h =
     let k = two (passes e) (figures r p) h in
     let s = sound e (k .0) in
-    let t = holds (k .1) in
-    let both = so (passes e && figures r p) (and-i (passes e) (figures r p) (holds (k .0)) t) in
-    let pre = passed (e .preliminary) (held .preliminary) (so (Average.passes (e .preliminary)) (s .preliminary)) in
-    let rel = passed (e .reliable) (held .reliable) (so (Average.passes (e .reliable)) (s .reliable)) in
+    let q = each-passed (rms r ∷ probability p ∷ []) (holds (k .1)) in
+    let pre = passed (e .preliminary) (held .preliminary) (s .preliminary) in
+    let rel = passed (e .reliable) (held .reliable) (s .reliable) in
     let next = framed (speech p) (Average.advanced r p) (e .threshold) (run e) in
-    let kept = framed-keeps Passed (speech p) (Average.advanced r p) (e .threshold) (run e) pre rel (λ (j : T (speech p)). advanced-passed (e .preliminary) r p pre f g (and-l (rms r) (probability p) t) (and-r (rms r) (probability p) t) j) in
-    rw both
+    let kept = framed-keeps Passed (speech p) (Average.advanced r p) (e .threshold) (run e) pre rel (λ (j : T (speech p)). advanced-passed (e .preliminary) r p pre f g (q 0) (q 1) j) in
+    rw (k .0 and k .1)
     (record {
       settings = held .settings;
       initial = held .initial;

@@ -3,14 +3,18 @@
 use mathlib.Core.Path.{_≡_, refl}
 use mathlib.Core.Logic.{_⊎_, inl, inr}
 use mathlib.Core.Bool.{Bool, true, false, _&&_}
+use mathlib.Core.List.{[], _∷_}
 use Prim.Native.Nat.{ℕ, _+_, _-_, _*_, _^_, _%_, _≤_, _<_}
 use native.Mathlib.Nat.{lt-of-lt-of-le}
 use native.Mathlib.Omega.{arith}
 use lib.IntN.{pos}
-use lib.Dec.{T, leb, eqb, leb→le, le→leb, eqb→eq}
+use borrow.Author.Tests.{le-leb, eq-eqb}
+use lib.Dec.{T, leb, eqb, leb→le, eqb→eq}
 use lib.Ieee.{Float, binary32, binary64, fits, mul, neg, le, ofBits, ofInt}
-use lib.Ieee.Fits.{and-i, and-l, and-r, eq→eqb}
+use lib.Ieee.Bits.{is-true}
+use lib.Ieee.Fits.{and-i}
 use lib.Ieee.Scale.{finite}
+use Rattle.lists.specs.Tests.{each-passed, _and_}
 use Rattle.rounding.specs.Units.{U, size, P, N, Number, Value}
 use Rattle.rounding.specs.Laws.Exact.{constant-number, whole-number}
 use Rattle.rounding.specs.Laws.Order.{le→units, units→le, between}
@@ -20,11 +24,6 @@ use Rattle.speech_level_estimator.specs.Average.{time, weighs, sums, pas
 use Rattle.speech_level_estimator.specs.Held.{Held}
 use Rattle.speech_level_estimator.specs.declared.Average.{Average}
 use Rattle.speech_level_estimator.specs.Laws.Exactly.{most, sums-exact}
-
--- a test that passed is true
-pub so : (b : Bool) → T b → b ≡ true
-so true t = refl
-so false t = absurd t
 
 abbrev pub one : Float
 one = ofBits binary32 0x3f80_0000
@@ -55,8 +54,9 @@ weight-facts w left f t =
     let top = ofInt binary32 (pos (450 - left)) in
     let v = whole-number (450 - left) (few left) in
     let o = one-value in
-    let a = and-l (le one w) (le w top) t in
-    let b = and-r (le one w) (le w top) t in
+    let both = each-passed (le one w ∷ le w top ∷ []) t in
+    let a = both 0 in
+    let b = both 1 in
     let n = between one top w (o .number) (v .number) f a b in
     let e = ends (P w) (N w) ((450 - left) * U) U (P one) (N one) (P top) (N top) U-pos (sides w n .one) (o .plus) (o .minus) (v .plus) (v .minus) (le→units one w (o .number) n a) (le→units w top n (v .number) b) in
     record { number = n; none-below = e .0; least = e .1; most = e .2 }
@@ -93,41 +93,26 @@ above-size w left h = let s = sides w (h .number) .both in let z = h .none-below
 pub passed : (a : Average) → Held a → passes a ≡ true → Passed a
 unfolding passes
 passed a f h =
-    let t = time (a .left) in
-    let w = weighs (a .weight) (a .left) in
-    let s = sums (a .sum) (a .weight) in
-    let k = holds h in
-    let tw = and-l (t && w) s k in
-    let tt' = and-l t w tw in
-    let st = and-r (t && w) s k in
-    let r = finite (a .sum) in
-    let weight = weight-facts (a .weight) (a .left) (f .weight) (and-r t w tw) in
-    let n : Number (a .sum) = record { real = and-l r (leb (size (a .sum)) (151 * size (a .weight))) st; held = f .sum } in
-    let small = leb→le (size (a .sum)) (151 * size (a .weight)) (and-r r (leb (size (a .sum)) (151 * size (a .weight))) st) in
+    let t = each-passed (leb (a .left) 400 ∷ eqb (a .left % 10) 0 ∷ weighs (a .weight) (a .left) ∷ sums (a .sum) (a .weight) ∷ []) (holds h) in
+    let s = each-passed (finite (a .sum) ∷ leb (size (a .sum)) (151 * size (a .weight)) ∷ []) (t 3) in
+    let weight = weight-facts (a .weight) (a .left) (f .weight) (t 2) in
+    let n : Number (a .sum) = record { real = s 0; held = f .sum } in
+    let small = leb→le (size (a .sum)) (151 * size (a .weight)) (s 1) in
     let both = sides (a .sum) n .both in
     let all = above-size (a .weight) (a .left) weight in
-    record {
-      time = leb→le (a .left) 400 (and-l (leb (a .left) 400) (eqb (a .left % 10) 0) tt');
-      tens = eqb→eq (a .left % 10) 0 (and-r (leb (a .left) 400) (eqb (a .left % 10) 0) tt');
-      weight = weight;
-      sum = n;
-      small = omega arith;
-    }
+    record { time = leb→le (a .left) 400 (t 0); tens = eqb→eq (a .left % 10) 0 (t 1); weight = weight; sum = n; small = omega arith }
 
 -- And what has all of that passes.
 pub passing : (a : Average) → Passed a → passes a ≡ true
 unfolding passes
 passing a p =
-    let t = time (a .left) in
-    let w = weighs (a .weight) (a .left) in
     let both = sides (a .sum) (p .sum) .both in
     let all = above-size (a .weight) (a .left) (p .weight) in
     let few = p .small in
     let small : size (a .sum) ≤ 151 * size (a .weight) = omega arith in
-    so (passes a)
-    (and-i (t && w) (sums (a .sum) (a .weight))
-    (and-i t w (and-i (leb (a .left) 400) (eqb (a .left % 10) 0) (le→leb (a .left) 400 (p .time)) (eq→eqb (p .tens))) (weight-passes (a .weight) (a .left) (p .weight)))
-    (and-i (finite (a .sum)) (leb (size (a .sum)) (151 * size (a .weight))) (p .sum .real) (le→leb (size (a .sum)) (151 * size (a .weight)) small)))
+    le-leb (a .left) 400 (p .time) and eq-eqb (a .left % 10) 0 (p .tens)
+    and is-true (weighs (a .weight) (a .left)) (weight-passes (a .weight) (a .left) (p .weight))
+    and (is-true (finite (a .sum)) (p .sum .real) and le-leb (size (a .sum)) (151 * size (a .weight)) small)
 
 -- ---- the code
 -- where the first test fails the second has no say
@@ -145,5 +130,5 @@ passes-exact a f =
     let b = mul binary64 most (a .weight) in
     guarded (t && w) (le (a .sum) b && le (neg b) (a .sum)) (sums (a .sum) (a .weight))
     (λ (g : T (t && w)).
-    let v = weight-facts (a .weight) (a .left) (f .weight) (and-r t w g) in
+    let v = weight-facts (a .weight) (a .left) (f .weight) (each-passed (t ∷ w ∷ []) g 1) in
     sums-exact (a .sum) (a .weight) (f .sum) (v .number) (lt-of-lt-of-le U-pos (v .least)))

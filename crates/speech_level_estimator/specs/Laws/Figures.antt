@@ -3,13 +3,14 @@
 use mathlib.Core.Path.{_≡_, refl, ap}
 use mathlib.Core.Logic.{_⊎_, inl, inr}
 use mathlib.Core.Bool.{Bool, true, false, _||_, cond}
+use mathlib.Core.List.{[], _∷_}
 use Prim.Native.Nat.{ℕ, _+_, _-_, _*_, _%_, _≤_, _<_}
 use native.Mathlib.Nat.{le-of-eq}
 use native.Mathlib.Omega.{arith}
 use borrow.Author.Tests.{eqb-true, eqb-false}
 use lib.Dec.{T, eqb, lit≤}
 use lib.Ieee.{Float, binary32, fits, lt, le, eq, ofBits}
-use lib.Ieee.Fits.{and-l, and-r}
+use Rattle.lists.specs.Tests.{each-passed}
 use Rattle.rounding.specs.Units.{U, size, P, N, Number, Value}
 use Rattle.rounding.specs.Laws.Exact.{constant-number}
 use Rattle.rounding.specs.Laws.Order.{le→units, between}
@@ -43,7 +44,7 @@ least-units = (lit≤ tt, refl)
 pub chance : (p : Float) → T (fits binary32 p) → T (speech p) → T (probability p) → Chance p
 chance p f s t =
     let o = one-value in
-    let b = and-r (le nought p) (le p one) t in
+    let b = each-passed (le nought p ∷ le p one ∷ []) t 1 in
     let n = between least-speech one p least-number (o .number) f s b in
     let low = le→units least-speech p least-number n s in
     let high = le→units p one n (o .number) b in
@@ -84,8 +85,9 @@ below-at-most x y t = go (lt x y) t
 -- An accepted rms is such a number.
 pub loud : (r : Float) → T (fits binary32 r) → T (rms r) → Loud r
 loud r f t =
-    let a = below-at-most lowest r (and-l (lt lowest r) (lt r highest) t) in
-    let b = below-at-most r highest (and-r (lt lowest r) (lt r highest) t) in
+    let both = each-passed (lt lowest r ∷ lt r highest ∷ []) t in
+    let a = below-at-most lowest r (both 0) in
+    let b = below-at-most r highest (both 1) in
     let v = lowest-value in
     let w = highest-value in
     let n = between lowest highest r (v .number) (w .number) f a b in

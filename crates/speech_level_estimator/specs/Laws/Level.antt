@@ -9,7 +9,9 @@ use native.Mathlib.Nat.{le-refl, le-of-eq, mul-le-mul-right, lt-of-lt-of-le}
 use native.Mathlib.Omega.{arith}
 use lib.Dec.{T, eqb, eqb→eq, eqb-refl, lit<}
 use lib.Ieee.{Float, nan, inf, fin, binary32, fits, isNan, sub, add, neg, div, lt, le, eq, ofBits, size as bits}
-use lib.Ieee.Fits.{and-i, and-l, and-r}
+use lib.Ieee.Bits.{is-true}
+use lib.Ieee.Fits.{and-i}
+use Rattle.lists.specs.Tests.{each-passed}
 use Rattle.rounding.specs.Units.{U, size, P, N, Number, Value, In}
 use Rattle.rounding.specs.Laws.Exact.{constant-number}
 use Rattle.rounding.specs.Laws.Operations.{div-rounds}
@@ -28,7 +30,7 @@ use Rattle.speech_level_estimator.specs.Average.{starting, passes, level
 use Rattle.speech_level_estimator.specs.Estimator.{startingLevel}
 use Rattle.speech_level_estimator.specs.Held.{Held, HeldSettings}
 use Rattle.speech_level_estimator.specs.declared.Average.{Average}
-use Rattle.speech_level_estimator.specs.Laws.Facts.{so, one, one-value, Passed, passed, passing}
+use Rattle.speech_level_estimator.specs.Laws.Facts.{one, one-value, Passed, passed, passing}
 use Rattle.speech_level_estimator.specs.Laws.Near.{near}
 
 -- ---- the ends: -90 and 30
@@ -85,7 +87,7 @@ level-in a h =
 
 -- The level of any average that passes lies from -90 to 30.
 pub level-in-range : (a : Average) → Held a → passes a ≡ true → closed lowest (level a) highest ≡ true
-level-in-range a held h = so (closed lowest (level a) highest) (in-closed (level a) (level-in a (passed a held h)))
+level-in-range a held h = is-true (closed lowest (level a) highest) (in-closed (level a) (level-in a (passed a held h)))
 
 -- ---- the level to start with
 -- -20 less two numbers from 0 to 50, from -90 to 30
@@ -118,8 +120,9 @@ boxed : (x : Float) → T (fits binary32 x) → T (closed nought x (ofBits binar
 boxed x f t =
     let top = ofBits binary32 0x4248_0000 in
     let z = nought-value .number in
-    let a = and-l (le nought x) (le x top) t in
-    let b = and-r (le nought x) (le x top) t in
+    let both = each-passed (le nought x ∷ le x top ∷ []) t in
+    let a = both 0 in
+    let b = both 1 in
     record { low-number = z; high-number = fifty-number; inside = le-box nought top x z fifty-number (between nought top x z fifty-number f a b) a b }
 
 -- what accepted settings have of the headroom and of the initial gain
@@ -127,14 +130,15 @@ accepted-facts : (s : Settings) → T (accepted s) → T (closed nought (s .head
 unfolding accepted
 accepted-facts s t =
     let top = ofBits binary32 0x4248_0000 in
-    go (closed nought (s .headroom .0) top) (not (isNegativeZero (s .headroom .0))) (above nought (s .largest .0) top) (closed nought (s .initial .0) top) (not (isNegativeZero (s .initial .0)))
-    (setting (ofBits binary32 0x3c23_d70a) (s .change) (ofBits binary32 0x42c8_0000)) (setting lowest (s .noise .0) nought) t
-  where
-    go : (a b c d e f g : Bool) → T (a && b && c && (d && e) && f && g) → T a × T d
-    go a b c d e f g k =
-        let x = a && b && c && (d && e) in
-        let y = and-l x f (and-l (x && f) g k) in
-        (and-l a b (and-l (a && b) c (and-l (a && b && c) (d && e) y)), and-l d e (and-r (a && b && c) (d && e) y))
+    let p = each-passed
+        (closed nought (s .headroom .0) top
+        ∷ not (isNegativeZero (s .headroom .0))
+        ∷ above nought (s .largest .0) top
+        ∷ setting nought (s .initial .0) top
+        ∷ setting (ofBits binary32 0x3c23_d70a) (s .change) (ofBits binary32 0x42c8_0000)
+        ∷ setting lowest (s .noise .0) nought
+        ∷ []) t in
+    (p 0, each-passed (closed nought (s .initial .0) top ∷ not (isNegativeZero (s .initial .0)) ∷ []) (p 3) 0)
 
 -- The level that accepted settings start with lies from -90 to -20.
 pub starting-level-in : (s : Settings) → HeldSettings s → T (accepted s) → In lowest last (startingLevel s)
@@ -158,7 +162,7 @@ wider x i = record { number = i .number; above = i .above; below = further (P x)
 
 -- A number equals itself,
 pub equals-itself : (x : Float) → Number x → T (eq x x)
-equals-itself x n = holds (eq-units x x n n ∙ so (eqb (P x + N x) (P x + N x)) (eqb-refl (P x + N x)))
+equals-itself x n = holds (eq-units x x n n ∙ is-true (eqb (P x + N x) (P x + N x)) (eqb-refl (P x + N x)))
 
 -- only a number equals a number
 equal-number : (x y : Float) → T (fits binary32 x) → T (eq x y) → Number y → Number x
@@ -173,7 +177,7 @@ equal-number (fin s m e) y f t n = record { real = tt; held = f }
 pub equal-in : (x y : Float) → T (fits binary32 x) → T (eq x y) → In lowest last y → In lowest last x
 equal-in x y f t i =
     let n = equal-number x y f t (i .number) in
-    let same = eqb→eq (P x + N y) (P y + N x) (holds (sym (eq-units x y n (i .number)) ∙ so (eq x y) t)) in
+    let same = eqb→eq (P x + N y) (P y + N x) (holds (sym (eq-units x y n (i .number)) ∙ is-true (eq x y) t)) in
     let above = i .above in
     let below = i .below in
     record { number = n; above = omega arith; below = omega arith }
