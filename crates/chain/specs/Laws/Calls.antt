@@ -2,18 +2,19 @@
 -- Assumes nothing.
 use mathlib.Core.Path.{_≡_, refl, sym, ap, ap₂, _∙_, subst}
 use mathlib.Core.Bool.{Bool, true, false, _&&_, cond}
-use mathlib.Core.List.{List}
+use mathlib.Core.List.{List, [], _∷_}
 use Prim.Native.Nat.{ℕ}
 use native.Mathlib.Omega.{arith}
 use borrow.Author.Tests.{ne-eqb}
 use lib.Dec.{eqb}
 use lib.ListN.{length}
 use lib.Ieee.{Float}
+use Rattle.lists.specs.Tests.{each-of}
 use Rattle.units.specs.Replies.{done, refusal}
 use Rattle.frames.specs.Shape.{isShape}
 use Rattle.frames.specs.Samples.{largestInput, allWithin}
 use Rattle.frames.specs.Refusal.{frameRefusal}
-use Rattle.frames.specs.Facts.{and-first, Taken, taken}
+use Rattle.frames.specs.Facts.{Taken, taken}
 use Rattle.runs.specs.Runs.{speech}
 use Rattle.gain_applier.specs.Applier as Applying
 use Rattle.gain_applier.specs.Range.{Held}
@@ -179,7 +180,7 @@ module _ (c : Chain) (f : Figures) (frame : List Float) (channels samples : ℕ)
       unfolding refused frameRefusal Gaining.processed
       reply-is =
           alone (allWithin largestInput frame) (all .0) (all .1) (all .2)
-          (and-first (isShape channels samples (length frame)) (eqb samples (samplesOf c)) (all .0)) (was .controller) (info-accepted c f ready figures (all .2))
+          (each-of (isShape channels samples (length frame) ∷ eqb samples (samplesOf c) ∷ []) (all .0) 0) (was .controller) (info-accepted c f ready figures (all .2))
           ∙ own-reply
 
       frame-same : (third .reply ≡ done → ⊥) → Gaining.processed (c .controller) (info c f) frame channels samples .frame ≡ frame

@@ -2,12 +2,14 @@
 -- Assumes nothing.
 use mathlib.Core.Path.{_≡_}
 use mathlib.Core.Bool.{Bool, true, _&&_}
+use mathlib.Core.List.{[], _∷_}
 use lib.Dec.{T, eqb}
 use lib.Ieee.{Float, binary32, fits, ofBits, eq, le, lt, size as bits}
+use lib.Ieee.Bits.{is-true}
+use Rattle.lists.specs.Tests.{each-of, _and_}
 use Rattle.rounding.specs.Laws.Exact.{constant-number}
 use Rattle.rounding.specs.Laws.Order.{le→units, units→le}
 use Rattle.intervals.specs.Laws.Choice.{leq-trans}
-use Rattle.frames.specs.Facts.{and-first, and-second, each-of-five}
 use Rattle.units.specs.Figures as Range
 use Rattle.units.specs.Ranges as Ranges
 use Rattle.units.specs.Settings as Settings
@@ -17,7 +19,7 @@ use Rattle.saturation_protector.specs.Protector as Headroom
 use Rattle.gain_applier.specs.Laws.Again.{equals-itself}
 use Rattle.adaptive_digital_gain_controller.specs.Controller as Gain
 use Rattle.adaptive_digital_gain_controller.specs.Range.{HeldSettings}
-use Rattle.adaptive_digital_gain_controller.specs.Laws.Boxes.{is-true, closed-box, in-settings}
+use Rattle.adaptive_digital_gain_controller.specs.Laws.Boxes.{closed-box, in-settings}
 use Rattle.limiter.specs.Limiter as Limiting
 use Rattle.units.specs.Figures.{accepted}
 use Rattle.chain.specs.Chain.{initial, alike, passes}
@@ -39,38 +41,22 @@ pub record Passed (c : Chain) : Type 0 where
 pub passed-all : (c : Chain) → passes c ≡ true → Passed c
 unfolding passes
 passed-all c h =
-    let t1 = Level.passes (c .estimator) in
-    let t2 = Headroom.passes (c .protector) in
-    let t3 = Gain.passes (c .controller) in
-    let t4 = Limiting.passes (c .limiter) in
-    let t5 = eqb (c .estimator .threshold) (c .protector .threshold) in
-    let t6 = eqb (c .estimator .threshold) (c .controller .threshold) in
-    let t7 = alike (c .estimator .settings) (c .controller .settings) in
-    let t8 = eq (c .protector .initial) initial in
-    let a7 = and-first (t1 && t2 && t3 && t4 && t5 && t6 && t7) t8 h in
-    let a6 = and-first (t1 && t2 && t3 && t4 && t5 && t6) t7 a7 in
-    let a5 = and-first (t1 && t2 && t3 && t4 && t5) t6 a6 in
-    let a4 = and-first (t1 && t2 && t3 && t4) t5 a5 in
-    let a3 = and-first (t1 && t2 && t3) t4 a4 in
-    let a2 = and-first (t1 && t2) t3 a3 in
-    record {
-      estimator = and-first t1 t2 a2;
-      protector = and-second t1 t2 a2;
-      controller = and-second (t1 && t2) t3 a3;
-      limiter = and-second (t1 && t2 && t3) t4 a4;
-      second = and-second (t1 && t2 && t3 && t4) t5 a5;
-      third = and-second (t1 && t2 && t3 && t4 && t5) t6 a6;
-      settings = and-second (t1 && t2 && t3 && t4 && t5 && t6) t7 a7;
-      start = and-second (t1 && t2 && t3 && t4 && t5 && t6 && t7) t8 h;
-    }
+    let p = each-of
+        (Level.passes (c .estimator)
+        ∷ Headroom.passes (c .protector)
+        ∷ Gain.passes (c .controller)
+        ∷ Limiting.passes (c .limiter)
+        ∷ eqb (c .estimator .threshold) (c .protector .threshold)
+        ∷ eqb (c .estimator .threshold) (c .controller .threshold)
+        ∷ alike (c .estimator .settings) (c .controller .settings)
+        ∷ eq (c .protector .initial) initial
+        ∷ []) h in
+    record { estimator = p 0; protector = p 1; controller = p 2; limiter = p 3; second = p 4; third = p 5; settings = p 6; start = p 7 }
 
 -- And what has passed all eight passes.
 pub passing : (c : Chain) → Passed c → passes c ≡ true
 unfolding passes
-passing c p = all (p .estimator) (p .protector) (p .controller) (p .limiter) (p .second) (p .third) (p .settings) (p .start)
-  where
-    all : {a b d e f g h i : Bool} → a ≡ true → b ≡ true → d ≡ true → e ≡ true → f ≡ true → g ≡ true → h ≡ true → i ≡ true → a && b && d && e && f && g && h && i ≡ true
-    all p q r s t u v w = rw (p, q, r, s, t, u, v, w)
+passing c p = p .estimator and p .protector and p .controller and p .limiter and p .second and p .third and p .settings and p .start
 
 -- what accepted figures have
 pub record Inside (f : Figures) : Type 0 where
@@ -84,8 +70,8 @@ pub record Inside (f : Figures) : Type 0 where
 pub inside : (f : Figures) → accepted f ≡ true → Inside f
 unfolding accepted
 inside f h =
-    let p = each-of-five (Range.probability (f .probability)) (Range.rms (f .rms .0)) (Range.level (f .peak .0)) (Range.level (f .noise .0)) (Range.envelope (f .envelope .0)) h in
-    record { probability = p .0; rms = p .1; peak = p .2; noise = p .3; envelope = p .4 }
+    let p = each-of (Range.probability (f .probability) ∷ Range.rms (f .rms .0) ∷ Range.level (f .peak .0) ∷ Range.level (f .noise .0) ∷ Range.envelope (f .envelope .0) ∷ []) h in
+    record { probability = p 0; rms = p 1; peak = p 2; noise = p 3; envelope = p 4 }
 
 -- A published level, from -90 to 30, is a level of the speech, from -150 to 50.
 pub published-level : (x : Float) → T (fits binary32 x) → Ranges.closed (ofBits binary32 0xc2b4_0000) x (ofBits binary32 0x41f0_0000) ≡ true → Range.level x ≡ true
@@ -98,17 +84,15 @@ published-level x f h =
     let high = ofBits binary32 0x4248_0000 in
     let down = le→units low least (constant-number 0xc316_0000 tt) (constant-number 0xc2b4_0000 tt) tt in
     let up = le→units most high (constant-number 0x41f0_0000 tt) (constant-number 0x4248_0000 tt) tt in
-    rw (
-      is-true (le low x) (units→le low x (constant-number 0xc316_0000 tt) (i .number) (leq-trans low least x down (i .above))),
-      is-true (le x high) (units→le x high (i .number) (constant-number 0x4248_0000 tt) (leq-trans x most high (i .below) up)),
-    )
+    is-true (le low x) (units→le low x (constant-number 0xc316_0000 tt) (i .number) (leq-trans low least x down (i .above)))
+    and is-true (le x high) (units→le x high (i .number) (constant-number 0x4248_0000 tt) (leq-trans x most high (i .below) up))
 
 -- Accepted settings are alike with themselves.
 pub alike-itself : (s : Set) → HeldSettings s → Settings.accepted s ≡ true → alike s s ≡ true
 unfolding alike
 alike-itself s h a =
     let i = in-settings s h a in
-    all (equals-itself (s .headroom .0) (i .headroom .inside .number)) (equals-itself (s .largest .0) (i .largest .inside .number)) (equals-itself (s .initial .0) (i .initial .inside .number)) (equals-itself (s .change) (i .change .inside .number)) (equals-itself (s .noise .0) (i .noise .inside .number))
-  where
-    all : {a b d e f : Bool} → a ≡ true → b ≡ true → d ≡ true → e ≡ true → f ≡ true → a && b && d && e && f ≡ true
-    all p q r s t = rw (p, q, r, s, t)
+    equals-itself (s .headroom .0) (i .headroom .inside .number) and equals-itself (s .largest .0) (i .largest .inside .number)
+    and equals-itself (s .initial .0) (i .initial .inside .number)
+    and equals-itself (s .change) (i .change .inside .number)
+    and equals-itself (s .noise .0) (i .noise .inside .number)

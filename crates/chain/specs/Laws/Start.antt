@@ -2,19 +2,19 @@
 -- Assumes nothing.
 use mathlib.Core.Path.{_≡_, refl, sym, ap, ap₂, _∙_, subst}
 use mathlib.Core.Bool.{Bool, true, false, _&&_, cond}
+use mathlib.Core.List.{[], _∷_}
 use Prim.Native.Nat.{ℕ}
 use native.Mathlib.Omega.{arith}
 use borrow.Author.Tests.{eq-eqb}
 use lib.Dec.{eqb}
 use lib.Ieee.{Float, binary32, ofBits, eq, le, lt}
 use lib.Ieee.Bits.{ofBits-fits}
+use Rattle.lists.specs.Tests.{each-of, _and_}
 use Rattle.units.specs.Figures as Range
 use Rattle.units.specs.Replies.{done, refusal}
 use Rattle.units.specs.Settings as Settings
 use Rattle.units.specs.declared.settings.Settings.{Settings as Set}
-use Rattle.saturation_protector_buffer.specs.Laws.Tests.{each as both}
 use Rattle.frames.specs.Shape.{isSamples}
-use Rattle.frames.specs.Facts.{and-first, and-second}
 use Rattle.speech_level_estimator.specs.Estimator as Level
 use Rattle.speech_level_estimator.specs.Calls as Levels
 use Rattle.speech_level_estimator.specs.Held as LevelHeld
@@ -125,7 +125,7 @@ module _ (s : Set) (t samples : ℕ) (h : GainRange.HeldSettings s) where
   pub fresh-ready : Settings.accepted s ≡ true → Settings.threshold t ≡ true → isSamples samples ≡ true → Ready (fresh s t samples)
   unfolding fresh
   fresh-ready a b n =
-      let ok = both a b in
+      let ok = a and b in
       let x = Level.startingLevel s in
       let e = fresh-level s t x in
       let p = fresh-headroom initial t in
@@ -174,13 +174,13 @@ module _ (s : Set) (t samples : ℕ) (h : GainRange.HeldSettings s) where
     -- A new chain that is not refused is the one at the start,
     pub made-fresh : made s t samples .chain ≡ fresh s t samples
     unfolding made
-    made-fresh = ap (λ (b : Bool). cond b (fresh s t samples) nothing) (both (tests .0) (tests .1))
+    made-fresh = ap (λ (b : Bool). cond b (fresh s t samples) nothing) (tests .0 and tests .1)
 
     -- so it passes, and its numbers are f32,
     pub made-ready : Ready (made s t samples .chain)
     made-ready =
-        subst Ready (sym made-fresh)
-        (fresh-ready (and-first (Settings.accepted s) (Settings.threshold t) (tests .1)) (and-second (Settings.accepted s) (Settings.threshold t) (tests .1)) (tests .0))
+        let p = each-of (Settings.accepted s ∷ Settings.threshold t ∷ []) (tests .1) in
+        subst Ready (sym made-fresh) (fresh-ready (p 0) (p 1) (tests .0))
 
     -- and its samples are those that were asked for.
     pub made-samples : samplesOf (made s t samples .chain) ≡ samples
@@ -206,13 +206,13 @@ no-frames s = none (Settings.accepted s)
 
 headroom-is : (t : ℕ) → Settings.threshold t ≡ true → Headrooms.made initial t .protector ≡ Headroom.fresh initial t
 unfolding Headrooms.made
-headroom-is t h = ap (λ (b : Bool). cond b (Headroom.fresh initial t) Headroom.nothing) (both h initial-headroom)
+headroom-is t h = ap (λ (b : Bool). cond b (Headroom.fresh initial t) Headroom.nothing) (h and initial-headroom)
 
 four-fresh : (s : Set) (t samples : ℕ) → Settings.accepted s && Settings.threshold t ≡ true → isSamples samples ≡ true → four s t samples ≡ fresh s t samples
 unfolding four fresh Levels.made Gaining.made Limiting.made
 four-fresh s t samples ok n =
     let e = ap (λ (b : Bool). cond b (Level.fresh s t (Level.startingLevel s)) Level.nothing) ok in
-    let p = headroom-is t (and-second (Settings.accepted s) (Settings.threshold t) ok) in
+    let p = headroom-is t (each-of (Settings.accepted s ∷ Settings.threshold t ∷ []) ok 1) in
     let g = ap (λ (b : Bool). cond b (Gain.fresh s t) Gain.nothing) ok in
     let l = ap (λ (b : Bool). cond b (Limiting.starting samples) Limiting.none) n in
     λ i. record { estimator = e i; protector = p i; controller = g i; limiter = l i }
@@ -248,6 +248,6 @@ made-parts s unset t samples {reply = reply} {first = first} {second = second} {
     let l = ap (λ (x : LimiterNext). x .limiter) p4 ∙ ap (λ (y : ℕ). Limiting.made y .limiter) z' in
     let c : _≡_ {A = Chain} (record { estimator = first .estimator; protector = second .protector; controller = third .controller; limiter = fourth .limiter }) (four (cond ok s unset) (cond ok t 0) (cond ok samples 0)) =
     λ i. record { estimator = e i; protector = p i; controller = g i; limiter = l i } in
-    let all = c ∙ four-is ok s unset t samples (λ (h : ok ≡ true). (and-first (isSamples samples) (Settings.accepted s && Settings.threshold t) h, and-second (isSamples samples) (Settings.accepted s && Settings.threshold t) h)) in
+    let all = c ∙ four-is ok s unset t samples (λ (h : ok ≡ true). let q = each-of (isSamples samples ∷ (Settings.accepted s && Settings.threshold t) ∷ []) h in (q 0, q 1)) in
     let r = pr ∙ ap₂ (λ (x y : Bool). refusal x y true true) pa (ap₂ _&&_ pb pd) in
     λ i. record { reply = r i; chain = all i }

@@ -6,10 +6,10 @@ use mathlib.Core.List.{List}
 use Prim.Native.Nat.{ℕ}
 use lib.Dec.{T, eqb}
 use lib.Ieee.{Float, binary32, fits, eq}
+use Rattle.lists.specs.Tests.{_and_}
 use Rattle.floats.specs.Laws.Kinds.{passed as so}
 use Rattle.units.specs.Figures as Range
 use Rattle.units.specs.Replies.{done, refusal}
-use Rattle.saturation_protector_buffer.specs.Laws.Tests.{each as both}
 use Rattle.frames.specs.Shape.{isShape}
 use Rattle.frames.specs.Samples.{largestInput, largestLevel, allWithin}
 use Rattle.frames.specs.Facts.{Taken, taken, not-refused}
@@ -20,7 +20,6 @@ use Rattle.gain_applier.specs.Range.{Held}
 use Rattle.speech_level_estimator.specs.Estimator as Level
 use Rattle.speech_level_estimator.specs.Calls as Levels
 use Rattle.speech_level_estimator.specs.Held.{HeldEstimator}
-use Rattle.speech_level_estimator.specs.Laws.Facts as LevelFacts
 use Rattle.speech_level_estimator.specs.Laws.Again as LevelAgain
 use Rattle.speech_level_estimator.specs.declared.Estimator.{Estimator}
 use Rattle.saturation_protector.specs.Protector as Headroom
@@ -63,7 +62,7 @@ level-done e r p h k = fine (Level.passes e) (Levels.figures r p) h k
 
 pub level-is : (e : Estimator) (r p : Float) → Level.passes e ≡ true → Levels.figures r p ≡ true → Levels.stepped e r p .estimator ≡ Level.updated e r p
 unfolding Levels.stepped
-level-is e r p h k = ap (λ (b : Bool). cond b (Level.updated e r p) e) (both h k)
+level-is e r p h k = ap (λ (b : Bool). cond b (Level.updated e r p) e) (h and k)
 
 updated-same : (e : Estimator) (r p : Float) → (Level.updated e r p .threshold ≡ e .threshold) × (Level.updated e r p .settings ≡ e .settings)
 unfolding Level.updated
@@ -138,7 +137,7 @@ module _ (c : Chain) (f : Figures) where
 
     -- The estimator's figures are accepted,
     pub heard-figures : Levels.figures (f .rms .0) (f .probability) ≡ true
-    heard-figures = both (given .rms) (given .probability)
+    heard-figures = given .rms and given .probability
 
     -- so it passes,
     pub heard-passes : Level.passes heard ≡ true
@@ -154,11 +153,11 @@ module _ (c : Chain) (f : Figures) where
 
     -- and the level that it publishes is one.
     pub heard-level : Range.level (heard .level) ≡ true
-    heard-level = published-level (heard .level) (heard-held .level) (LevelFacts.so _ (LevelAgain.sound heard heard-passes .level))
+    heard-level = published-level (heard .level) (heard-held .level) (LevelAgain.sound heard heard-passes .level)
 
     -- So the protector's figures are accepted,
     pub safe-figures : Headrooms.figures (f .probability) (f .peak .0) (heard .level) ≡ true
-    safe-figures = both (both (given .probability) (given .peak)) heard-level
+    safe-figures = given .probability and given .peak and heard-level
 
     -- it passes,
     pub safe-passes : Headroom.passes safe ≡ true
@@ -171,7 +170,7 @@ module _ (c : Chain) (f : Figures) where
     -- So what the controller is told is accepted,
     pub info-accepted : Gain.accepted info ≡ true
     unfolding Gain.accepted informed
-    info-accepted = both (both (both (both (given .probability) heard-level) (given .noise)) (passed-whole safe safe-passes .headroom)) (given .envelope)
+    info-accepted = given .probability and heard-level and given .noise and passed-whole safe safe-passes .headroom and given .envelope
 
     -- and its numbers are f32.
     pub info-held : GainRange.HeldInfo info

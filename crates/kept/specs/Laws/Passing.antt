@@ -2,17 +2,18 @@
 -- Assumes nothing.
 use mathlib.Core.Path.{_≡_, refl, sym, ap, ap₂, _∙_, subst}
 use mathlib.Core.Bool.{Bool, true, false, _&&_, cond, false≢true}
-use mathlib.Core.List.{List}
+use mathlib.Core.List.{List, [], _∷_}
 use Prim.Native.Nat.{ℕ}
 use lib.Dec.{T, eqb}
 use lib.Ieee.{Float, binary32, fits, ofBits, eq, le, lt}
+use Rattle.lists.specs.Tests.{each-of}
 use Rattle.floats.specs.Kinds.{isNegativeZero}
 use Rattle.units.specs.Figures.{accepted}
 use Rattle.units.specs.Replies.{done, refusal}
 use Rattle.units.specs.Settings as Settings
 use Rattle.units.specs.declared.figures.Figures.{Figures}
 use Rattle.units.specs.declared.settings.Settings.{Settings as Set}
-use Rattle.frames.specs.Facts.{and-first, taken}
+use Rattle.frames.specs.Facts.{taken}
 use Rattle.frames.specs.Samples.{largestInput, largestLevel}
 use Rattle.frames.specs.Shape.{isSamples}
 use Rattle.gain_applier.specs.Range.{Held}
@@ -72,7 +73,7 @@ module _ (k : KeptLimiter) (frame : List Float) (channels samples : ℕ) (level 
 
   limiter-was-sound : soundLimiter k ≡ true
   unfolding limiterPasses
-  limiter-was-sound = and-first (soundLimiter k) (Limiting.passes (limiterOf k)) limiter-passed
+  limiter-was-sound = each-of (soundLimiter k ∷ Limiting.passes (limiterOf k) ∷ []) limiter-passed 0
 
   limiter-was-ready : Scale.Ready (limiterOf k)
   unfolding limiterPasses limiterOf
@@ -138,7 +139,7 @@ module _ (k : KeptChain) (f : Figures) (frame : List Float) (channels samples : 
   chain-was-sound : soundChain k ≡ true
   unfolding chainStepped chainPasses
   chain-was-sound =
-      and-first (soundChain k) (Chains.passes (chainOf k)) (taken frame channels samples (eqb samples (k .limiter .estimator .samples)) (chainPasses k) (accepted f) largestInput ok .settings)
+      each-of (soundChain k ∷ Chains.passes (chainOf k) ∷ []) (taken frame channels samples (eqb samples (k .limiter .estimator .samples)) (chainPasses k) (accepted f) largestInput ok .settings) 0
 
   chain-is : chainStepped k f frame channels samples ≡ keptCall (Chaining.called (chainOf k) f frame channels samples)
   chain-is = chain-inside k f frame channels samples chain-was-sound

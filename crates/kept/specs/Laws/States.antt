@@ -1,13 +1,13 @@
 -- What is kept comes back, both ways, and is sound. Laws.
 -- Assumes nothing.
 use mathlib.Core.Path.{_≡_, refl, sym}
-use mathlib.Core.Bool.{Bool, true, false, _&&_, cond}
+use mathlib.Core.Bool.{Bool, true, false, cond}
+use mathlib.Core.List.{[], _∷_}
 use Prim.Native.Nat.{ℕ, _≤_}
 use native.Mathlib.Omega.{arith}
 use borrow.Author.Tests.{leb-true, eqb-true, eqb-false}
 use lib.Dec.{eqb}
-use Rattle.frames.specs.Facts.{and-first, and-second}
-use Rattle.saturation_protector_buffer.specs.Laws.Tests.{each as both}
+use Rattle.lists.specs.Tests.{each-of, _and_}
 use Rattle.limiter.specs.declared.Limiter.{Limiter}
 use Rattle.chain.specs.declared.Chain.{Chain}
 use Rattle.kept.specs.States.{isFlag, flagOf, numberOf, soundLimiter, limiterOf, keptLimiter, soundChain, chainOf, keptChain}
@@ -62,7 +62,7 @@ chain-kept c = rw (flag-back (c .estimator .confident), flag-back (c .controller
 -- and is sound.
 pub kept-chain-sound : (c : Chain) → soundChain (keptChain c) ≡ true
 unfolding soundChain keptChain
-kept-chain-sound c = both (both (number-sound (c .estimator .confident)) (number-sound (c .controller .applier .clip))) (kept-limiter-sound (c .limiter))
+kept-chain-sound c = number-sound (c .estimator .confident) and number-sound (c .controller .applier .clip) and kept-limiter-sound (c .limiter)
 
 -- the three flags of a sound chain
 pub record Flags (k : KeptChain) : Type 0 where
@@ -73,11 +73,8 @@ pub record Flags (k : KeptChain) : Type 0 where
 pub flags : (k : KeptChain) → soundChain k ≡ true → Flags k
 unfolding soundChain
 flags k h =
-    let a = isFlag (k .estimator .confident) in
-    let b = isFlag (k .controller .applier .clip) in
-    let l = soundLimiter (k .limiter) in
-    let two = and-first (a && b) l h in
-    record { confident = and-first a b two; clip = and-second a b two; limiter = and-second (a && b) l h }
+    let p = each-of (isFlag (k .estimator .confident) ∷ isFlag (k .controller .applier .clip) ∷ soundLimiter (k .limiter) ∷ []) h in
+    record { confident = p 0; clip = p 1; limiter = p 2 }
 
 -- What is kept of the chain inside is what came in, where that is sound.
 pub chain-back : (k : KeptChain) → soundChain k ≡ true → keptChain (chainOf k) ≡ k
