@@ -2,7 +2,7 @@
 -- Assumes nothing.
 use mathlib.Core.Path.{_≡_}
 use mathlib.Core.Bool.{Bool, true, _&&_}
-use mathlib.Core.List.{[], _∷_}
+use mathlib.Core.List.{List, [], _∷_}
 use lib.Dec.{T, eqb}
 use lib.Ieee.{Float, binary32, fits, ofBits, eq, le, lt, size as bits}
 use lib.Ieee.Bits.{is-true}
@@ -37,20 +37,24 @@ pub record Passed (c : Chain) : Type 0 where
   pub settings : alike (c .estimator .settings) (c .controller .settings) ≡ true
   pub start : eq (c .protector .initial) initial ≡ true
 
+-- the eight tests, in the order of `passes`
+abbrev tests : Chain → List Bool
+tests c =
+    Level.passes (c .estimator)
+    ∷ Headroom.passes (c .protector)
+    ∷ Gain.passes (c .controller)
+    ∷ Limiting.passes (c .limiter)
+    ∷ eqb (c .estimator .threshold) (c .protector .threshold)
+    ∷ eqb (c .estimator .threshold) (c .controller .threshold)
+    ∷ alike (c .estimator .settings) (c .controller .settings)
+    ∷ eq (c .protector .initial) initial
+    ∷ []
+
 -- A chain that passes has passed each of the eight tests.
 pub passed-all : (c : Chain) → passes c ≡ true → Passed c
 unfolding passes
 passed-all c h =
-    let p = each-of
-        (Level.passes (c .estimator)
-        ∷ Headroom.passes (c .protector)
-        ∷ Gain.passes (c .controller)
-        ∷ Limiting.passes (c .limiter)
-        ∷ eqb (c .estimator .threshold) (c .protector .threshold)
-        ∷ eqb (c .estimator .threshold) (c .controller .threshold)
-        ∷ alike (c .estimator .settings) (c .controller .settings)
-        ∷ eq (c .protector .initial) initial
-        ∷ []) h in
+    let p = each-of (tests c) h in
     record { estimator = p 0; protector = p 1; controller = p 2; limiter = p 3; second = p 4; third = p 5; settings = p 6; start = p 7 }
 
 -- And what has passed all eight passes.

@@ -3,7 +3,7 @@
 use mathlib.Core.Path.{_≡_, refl, sym, _∙_}
 use mathlib.Core.Logic.{_⊎_, inl, inr}
 use mathlib.Core.Bool.{Bool, true, _&&_, not}
-use mathlib.Core.List.{[], _∷_}
+use mathlib.Core.List.{List, [], _∷_}
 use Prim.Native.Nat.{ℕ, _+_, _*_, _≤_, _<_}
 use native.Mathlib.Nat.{le-refl, le-of-eq, mul-le-mul-right, lt-of-lt-of-le}
 use native.Mathlib.Omega.{arith}
@@ -125,19 +125,23 @@ boxed x f t =
     let b = both 1 in
     record { low-number = z; high-number = fifty-number; inside = le-box nought top x z fifty-number (between nought top x z fifty-number f a b) a b }
 
+-- the tests of the settings, in the order of `accepted`; that of the headroom is two
+abbrev tests : Settings → List Bool
+tests s =
+    closed nought (s .headroom .0) (ofBits binary32 0x4248_0000)
+    ∷ not (isNegativeZero (s .headroom .0))
+    ∷ above nought (s .largest .0) (ofBits binary32 0x4248_0000)
+    ∷ setting nought (s .initial .0) (ofBits binary32 0x4248_0000)
+    ∷ setting (ofBits binary32 0x3c23_d70a) (s .change) (ofBits binary32 0x42c8_0000)
+    ∷ setting lowest (s .noise .0) nought
+    ∷ []
+
 -- what accepted settings have of the headroom and of the initial gain
 accepted-facts : (s : Settings) → T (accepted s) → T (closed nought (s .headroom .0) (ofBits binary32 0x4248_0000)) × T (closed nought (s .initial .0) (ofBits binary32 0x4248_0000))
 unfolding accepted
 accepted-facts s t =
     let top = ofBits binary32 0x4248_0000 in
-    let p = each-passed
-        (closed nought (s .headroom .0) top
-        ∷ not (isNegativeZero (s .headroom .0))
-        ∷ above nought (s .largest .0) top
-        ∷ setting nought (s .initial .0) top
-        ∷ setting (ofBits binary32 0x3c23_d70a) (s .change) (ofBits binary32 0x42c8_0000)
-        ∷ setting lowest (s .noise .0) nought
-        ∷ []) t in
+    let p = each-passed (tests s) t in
     (p 0, each-passed (closed nought (s .initial .0) top ∷ not (isNegativeZero (s .initial .0)) ∷ []) (p 3) 0)
 
 -- The level that accepted settings start with lies from -90 to -20.
