@@ -1,6 +1,6 @@
 -- Tests that all have to pass, as `a && b && c`: what each shows where all pass, and that all pass where each does. A definition and its laws.
 -- Assumes nothing.
-use mathlib.Core.Path.{_≡_, refl, sym, subst}
+use mathlib.Core.Path.{_≡_, sym, subst}
 use mathlib.Core.Bool.{Bool, true, false, _&&_}
 use mathlib.Core.List.{List, [], _∷_}
 use Prim.Native.Nat.{ℕ, zero, suc}

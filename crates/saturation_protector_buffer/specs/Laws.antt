@@ -1,5 +1,4 @@
 -- What is true of the definitions beside this file: over any size n first, and of the calls of the code's ring.
-pub mod Tests
 pub mod Places
 pub mod Front
 pub mod Pushes

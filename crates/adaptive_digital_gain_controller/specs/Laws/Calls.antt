@@ -1,7 +1,7 @@
 -- Of the calls: states that come out pass, the gain does not rise while a frame is still to come, the applier inside never refuses,
 -- and what is handed on is within 33554432. Of what comes in it is only asked that its floats are f32, which the borrow checker knows.
 use mathlib.Core.Path.{_≡_, refl, sym, ap, ap₂, _∙_, subst}
-use mathlib.Core.Bool.{Bool, true, false, _&&_}
+use mathlib.Core.Bool.{Bool, true, false, _&&_, and-true}
 use mathlib.Core.List.{List, [], _∷_}
 use Prim.Native.Nat.{ℕ, _<_}
 use native.Mathlib.Omega.{arith}
@@ -10,6 +10,7 @@ use lib.ListN.{length}
 use lib.Ieee.{Float, le}
 use Rattle.lists.specs.Tests.{each-of}
 use Rattle.units.specs.Replies.{done, refusal}
+use Rattle.units.specs.Laws.Replies.{none-refused, refused-first}
 use Rattle.units.specs.Settings as Settings
 use Rattle.units.specs.declared.settings.Settings.{Settings as Set}
 use Rattle.frames.specs.Shape.{isShape}
@@ -34,12 +35,6 @@ use Rattle.adaptive_digital_gain_controller.specs.declared.Info.{Info}
 use Rattle.adaptive_digital_gain_controller.specs.declared.Controller.{Controller}
 
 -- ---- a new controller
--- the reply 4 is not 0
-one : (setting : Bool) → refusal true setting true true ≡ done → setting ≡ true
-unfolding refusal
-one true h = refl
-one false h = absurd (omega arith)
-
 module _ (s : Set) (t : ℕ) (h : HeldSettings s) where
   fresh-ready : Settings.accepted s && Settings.threshold t ≡ true → Ready (fresh s t)
   unfolding fresh Applier.made Applier.starting
@@ -70,28 +65,13 @@ module _ (s : Set) (t : ℕ) (h : HeldSettings s) where
   -- A new controller that is not refused passes, and its floats are f32.
   pub made-ready : made s t .reply ≡ done → Ready (made s t .controller)
   unfolding made
-  made-ready r = let ok = one (Settings.accepted s && Settings.threshold t) r in rw ok (fresh-ready ok)
+  made-ready r = let ok = none-refused true (Settings.accepted s && Settings.threshold t) true true r .1 in rw ok (fresh-ready ok)
 
   -- A new controller that is not refused passes.
   pub made-passes : made s t .reply ≡ done → passes (made s t .controller) ≡ true
   made-passes r = made-ready r .state
 
 -- ---- a frame
--- the first three tests decide where one of them fails; where all pass, the samples do
-early : (shape setting figure sample : Bool) → (refusal shape setting figure true ≡ done → ⊥) → refusal (shape && true) setting figure sample ≡ refusal shape setting figure true
-unfolding refusal
-early true true true sample n = absurd (n refl)
-early true true false sample n = refl
-early true false figure sample n = refl
-early false setting figure sample n = refl
-
-three : (shape setting figure : Bool) → refusal shape setting figure true ≡ done → (shape ≡ true) × (setting ≡ true) × (figure ≡ true)
-unfolding refusal
-three true true true h = (refl, refl, refl)
-three true true false h = absurd (omega arith)
-three true false figure h = absurd (omega arith)
-three false setting figure h = absurd (omega arith)
-
 module _ (c : Controller) (i : Info) (frame : List Float) (channels samples : ℕ) where
   -- the call of the applier inside
   abbrev pub put : Applier.Applied
@@ -102,8 +82,9 @@ module _ (c : Controller) (i : Info) (frame : List Float) (channels samples : �
       → processed c i frame channels samples ≡ record { next = record { reply = r; controller = c }; frame = frame }
   unfolding processed frameRefusal
   refused-early {r} e n =
-      let same = early (isShape channels samples (length frame)) (passes c) (accepted i) (allWithin largestInput frame) (λ (z : refusal (isShape channels samples (length frame)) (passes c) (accepted i) true ≡ done). n (e ∙ z)) ∙ sym e in
-      rw (same, ne-eqb r done n)
+      let shape = isShape channels samples (length frame) in
+      let same = refused-first shape (passes c) (accepted i) (allWithin largestInput frame) (λ (z : refusal shape (passes c) (accepted i) true ≡ done). n (e ∙ z)) ∙ sym e in
+      rw (and-true shape, same, ne-eqb r done n)
 
   module _ (h : HeldState c) (k : HeldInfo i) where
     -- Where state and figures are in order, the reply is the applier's.
@@ -130,7 +111,7 @@ module _ (c : Controller) (i : Info) (frame : List Float) (channels samples : �
 
       reply : frameRefusal frame channels samples true (passes c) (accepted i) largestInput ≡ next .reply
       reply =
-          let t = three (isShape channels samples (length frame)) (passes c) (accepted i) (sym e ∙ z) in
+          let t = none-refused (isShape channels samples (length frame)) (passes c) (accepted i) true (sym e ∙ z) in
           reply-is (t .1) (t .2) ∙ ap (λ (b : Applied). b .reply) (sym next-is)
 
       -- Where the applier does not refuse, the state is the one that was decided on, with the applier's own in it, and the frame is the applier's.

@@ -1,16 +1,16 @@
 -- Of a call over a lent frame: what it comes to where it is refused and where it is not, and that the state that comes out of an accepted one passes. Laws.
 -- Assumes nothing.
 use mathlib.Core.Path.{_≡_, refl, sym, ap, ap₂, _∙_, subst}
-use mathlib.Core.Bool.{Bool, true, false, _&&_, cond}
+use mathlib.Core.Bool.{Bool, true, _&&_, cond}
 use mathlib.Core.List.{List, [], _∷_}
 use Prim.Native.Nat.{ℕ}
-use native.Mathlib.Omega.{arith}
 use borrow.Author.Tests.{ne-eqb}
 use lib.Dec.{eqb}
 use lib.ListN.{length}
 use lib.Ieee.{Float}
 use Rattle.lists.specs.Tests.{each-of}
 use Rattle.units.specs.Replies.{done, refusal}
+use Rattle.units.specs.Laws.Replies.{none-refused, refused-first}
 use Rattle.frames.specs.Shape.{isShape}
 use Rattle.frames.specs.Samples.{largestInput, allWithin}
 use Rattle.frames.specs.Refusal.{frameRefusal}
@@ -43,21 +43,6 @@ use Rattle.chain.specs.Laws.Passing.{Passed, passed-all}
 use Rattle.chain.specs.Laws.Steps.{level-is, heard, safe, info, heard-figures, safe-figures, info-accepted, controller-is, frame-is, stepped-ready, stepped-full-scale}
 use Rattle.chain.specs.declared.Chain.{Chain}
 use Rattle.units.specs.declared.figures.Figures.{Figures}
-
--- the first three tests decide where one of them fails; where all pass, the samples do
-early : (shape setting figure sample : Bool) → (refusal shape setting figure true ≡ done → ⊥) → refusal shape setting figure sample ≡ refusal shape setting figure true
-unfolding refusal
-early true true true sample n = absurd (n refl)
-early true true false sample n = refl
-early true false figure sample n = refl
-early false setting figure sample n = refl
-
-three : (shape setting figure : Bool) → refusal shape setting figure true ≡ done → (shape ≡ true) × (setting ≡ true) × (figure ≡ true)
-unfolding refusal
-three true true true h = (refl, refl, refl)
-three true true false h = absurd (omega arith)
-three true false figure h = absurd (omega arith)
-three false setting figure h = absurd (omega arith)
 
 -- where those tests pass, the samples decide
 alone : {a b d e f g : Bool} (w : Bool) → a ≡ true → b ≡ true → d ≡ true → e ≡ true → f ≡ true → g ≡ true → refusal a b d w ≡ refusal (e && true) f g w
@@ -106,7 +91,7 @@ module _ (c : Chain) (f : Figures) (frame : List Float) (channels samples : ℕ)
   unfolding refused frameRefusal
   refused-early {r} e n =
       let shape = isShape channels samples (length frame) && eqb samples (samplesOf c) in
-      called-refused (early shape (passes c) (accepted f) (allWithin largestInput frame) (λ (z : refusal shape (passes c) (accepted f) true ≡ done). n (e ∙ z)) ∙ sym e) n
+      called-refused (refused-first shape (passes c) (accepted f) (allWithin largestInput frame) (λ (z : refusal shape (passes c) (accepted f) true ≡ done). n (e ∙ z)) ∙ sym e) n
 
   module _ (held : HeldChain c) (figures : HeldFigures f) (sound : Held frame) where
     module _ (ok : called c f frame channels samples .told .reply ≡ done) where
@@ -143,8 +128,8 @@ module _ (c : Chain) (f : Figures) (frame : List Float) (channels samples : ℕ)
         (q : second ≡ Headrooms.stepped (c .protector) (f .probability) (f .peak .0) (first .estimator .level))
         (n : third ≡ Gaining.processed (c .controller) (informed (first .estimator) (second .protector) f) frame channels samples .next)
         (o : out ≡ Gaining.processed (c .controller) (informed (first .estimator) (second .protector) f) frame channels samples .frame) where
-      all : (isShape channels samples (length frame) && eqb samples (samplesOf c) ≡ true) × (passes c ≡ true) × (accepted f ≡ true)
-      all = three (isShape channels samples (length frame) && eqb samples (samplesOf c)) (passes c) (accepted f) (sym e ∙ z)
+      all : (isShape channels samples (length frame) && eqb samples (samplesOf c) ≡ true) × (passes c ≡ true) × (accepted f ≡ true) × (true ≡ true)
+      all = none-refused (isShape channels samples (length frame) && eqb samples (samplesOf c)) (passes c) (accepted f) true (sym e ∙ z)
 
       ready : Ready c
       ready = record { held = held; state = all .1 }

@@ -1,7 +1,7 @@
 -- What a chain that passes has, and what is accepted of figures; settings that are accepted are alike with themselves. Laws.
 -- Assumes nothing.
 use mathlib.Core.Path.{_≡_}
-use mathlib.Core.Bool.{Bool, true, _&&_}
+use mathlib.Core.Bool.{Bool, true}
 use mathlib.Core.List.{List, [], _∷_}
 use lib.Dec.{T, eqb}
 use lib.Ieee.{Float, binary32, fits, ofBits, eq, le, lt, size as bits}

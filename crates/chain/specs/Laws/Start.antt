@@ -4,7 +4,6 @@ use mathlib.Core.Path.{_≡_, refl, sym, ap, ap₂, _∙_, subst}
 use mathlib.Core.Bool.{Bool, true, false, _&&_, cond}
 use mathlib.Core.List.{[], _∷_}
 use Prim.Native.Nat.{ℕ}
-use native.Mathlib.Omega.{arith}
 use borrow.Author.Tests.{eq-eqb}
 use lib.Dec.{eqb}
 use lib.Ieee.{Float, binary32, ofBits, eq, le, lt}
@@ -12,6 +11,7 @@ use lib.Ieee.Bits.{ofBits-fits}
 use Rattle.lists.specs.Tests.{each-of, _and_}
 use Rattle.units.specs.Figures as Range
 use Rattle.units.specs.Replies.{done, refusal}
+use Rattle.units.specs.Laws.Replies.{none-refused}
 use Rattle.units.specs.Settings as Settings
 use Rattle.units.specs.declared.settings.Settings.{Settings as Set}
 use Rattle.frames.specs.Shape.{isSamples}
@@ -159,17 +159,10 @@ module _ (s : Set) (t samples : ℕ) (h : GainRange.HeldSettings s) where
   unfolding fresh
   fresh-samples = starting-samples samples
 
-  -- the replies 1 and 4 are not 0
-  two : (shape setting : Bool) → refusal shape setting true true ≡ done → (shape ≡ true) × (setting ≡ true)
-  unfolding refusal
-  two true true k = (refl, refl)
-  two true false k = absurd (omega arith)
-  two false setting k = absurd (omega arith)
-
   module _ (k : made s t samples .reply ≡ done) where
     tests : (isSamples samples ≡ true) × (Settings.accepted s && Settings.threshold t ≡ true)
     unfolding made
-    tests = two (isSamples samples) (Settings.accepted s && Settings.threshold t) k
+    tests = let q = none-refused (isSamples samples) (Settings.accepted s && Settings.threshold t) true true k in (q .0, q .1)
 
     -- A new chain that is not refused is the one at the start,
     pub made-fresh : made s t samples .chain ≡ fresh s t samples

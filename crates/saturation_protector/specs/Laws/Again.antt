@@ -1,7 +1,7 @@
 -- "Every state from a new or accepted call passes": of each call, and the headroom that is told lies in its range. Laws.
 -- Assumes nothing.
 use mathlib.Core.Path.{_≡_, refl}
-use mathlib.Core.Bool.{Bool, true, false, _&&_, cond}
+use mathlib.Core.Bool.{Bool, true, false, cond}
 use mathlib.Core.List.{[], _∷_}
 use Prim.Native.Nat.{ℕ, _≤_}
 use native.Mathlib.Omega.{arith}
@@ -10,9 +10,9 @@ use Rattle.lists.specs.Tests.{each-of}
 use Rattle.units.specs.Figures.{probability, level, headroom}
 use Rattle.units.specs.Settings.{threshold}
 use Rattle.units.specs.Replies.{done}
+use Rattle.units.specs.Laws.Replies.{none-refused}
 use Rattle.runs.specs.Runs.{speech, longer, turned}
 use Rattle.runs.specs.Laws.Counts.{longer-most}
-use Rattle.saturation_protector_buffer.specs.Laws.Tests.{done-both}
 use Rattle.saturation_protector.specs.Peaks as Peaks
 use Rattle.saturation_protector.specs.Protector.{passes, fresh, again, analyzed}
 use Rattle.saturation_protector.specs.Calls.{made, figures, stepped, reset, told}
@@ -87,14 +87,14 @@ analyzed-passes s p peak speechLevel h k l =
 pub made-passes : (initial : Float) (t : ℕ) → made initial t .reply ≡ done → passes (made initial t .protector) ≡ true
 unfolding made
 made-passes initial t h =
-    let k = done-both (threshold t) (headroom initial) h in
-    rw (k .0, k .1) (fresh-passes initial t (k .1) (k .0))
+    let k = none-refused true (threshold t) (headroom initial) true h in
+    rw (k .1, k .2) (fresh-passes initial t (k .2) (k .1))
 
 -- An accepted frame is one of figures in their ranges, of a protector that passes.
 pub accepted : (s : Protector) (p peak speechLevel : Float) → stepped s p peak speechLevel .reply ≡ done
     → (passes s ≡ true) × (figures p peak speechLevel ≡ true)
 unfolding stepped
-accepted s p peak speechLevel h = done-both (passes s) (figures p peak speechLevel) h
+accepted s p peak speechLevel h = let k = none-refused true (passes s) (figures p peak speechLevel) true h in (k .1, k .2)
 
 -- What an accepted frame hands back.
 pub stepped-analyzed : (s : Protector) (p peak speechLevel : Float) → passes s ≡ true → figures p peak speechLevel ≡ true
@@ -114,12 +114,12 @@ stepped-passes s p peak speechLevel h =
 pub reset-passes : (s : Protector) → reset s .reply ≡ done → passes (reset s .protector) ≡ true
 unfolding reset
 reset-passes s h =
-    let k = done-both (passes s) true h .0 in
+    let k = none-refused true (passes s) true true h .1 in
     rw k (again-passes s k)
 
 -- A headroom that is told and not refused lies above 0 and to 100.
 pub headroom-in-range : (s : Protector) → told s .reply ≡ done → headroom (told s .headroom .0) ≡ true
 unfolding told
 headroom-in-range s h =
-    let k = done-both (passes s) true h .0 in
+    let k = none-refused true (passes s) true true h .1 in
     rw k (passed-whole s k .headroom)

@@ -9,14 +9,15 @@ use lib.Dec.{lit<}
 use lib.ListN.{length}
 use lib.Ieee.{Float}
 use Rattle.lists.specs.Each.{Each}
+use Rattle.lists.specs.Tests.{_and_}
 use Rattle.units.specs.Figures.{headroom}
 use Rattle.units.specs.Settings.{threshold}
 use Rattle.units.specs.Replies.{done}
+use Rattle.units.specs.Laws.Replies.{none-refused}
 use Rattle.saturation_protector_buffer.specs.Ring as Ring
 use Rattle.saturation_protector_buffer.specs.History.{emptyOf}
 use Rattle.saturation_protector_buffer.specs.Laws.Pushes.{push-items, last-short}
 use Rattle.saturation_protector_buffer.specs.Laws.History.{SoundRing, new-sound, reset-sound}
-use Rattle.saturation_protector_buffer.specs.Laws.Tests.{done-both}
 use Rattle.saturation_protector_buffer.specs.declared.Ring.{Ring as Stored}
 use Rattle.saturation_protector.specs.Peaks.{lowest, starting, restarted}
 use Rattle.saturation_protector.specs.Protector.{passes, nothing, fresh, again}
@@ -56,9 +57,9 @@ module _ (s : Protector) (start : Starts s) (fs : List Figures) (ranges : Each I
 pub made-starts : (initial : Float) (t : ℕ) → made initial t .reply ≡ done → Starts (made initial t .protector)
 unfolding made fresh starting emptyOf Ring.empty Ring.items
 made-starts initial t h =
-    let k = done-both (threshold t) (headroom initial) h in
+    let k = none-refused true (threshold t) (headroom initial) true h in
     let p = made-passes initial t h in
-    go (threshold t && headroom initial) (rw (k .0, k .1) refl) p
+    go (threshold t && headroom initial) (k .1 and k .2) p
   where
     go : (b : Bool) → b ≡ true → passes (cond b (fresh initial t) nothing) ≡ true → Starts (cond b (fresh initial t) nothing)
     go true e p = record { state = p; sound = new-sound Ring.capacity (lit< tt); items = refl; largest = refl; elapsed = refl }
@@ -67,7 +68,7 @@ made-starts initial t h =
 -- A protector that was reset starts; that its storage has four places is what the borrow checker knows of an array.
 pub reset-starts : (s : Protector) → length (s .preliminary .ring .stored) ≡ Ring.capacity → reset s .reply ≡ done → Starts (reset s .protector)
 unfolding reset again restarted Ring.reset Ring.items
-reset-starts s long h = go (passes s) (done-both (passes s) true h .0) (reset-passes s h)
+reset-starts s long h = go (passes s) (none-refused true (passes s) true true h .1) (reset-passes s h)
   where
     go : (b : Bool) → b ≡ true → passes (cond b (again s) s) ≡ true → Starts (cond b (again s) s)
     go true e p =

@@ -12,12 +12,12 @@ use lib.Ieee.Scale.{finite}
 use borrow.Author.Tests.{ltb-true, leb-true, lt-ltb, le-leb}
 use Rattle.lists.specs.Tests.{each-of, _and_}
 use Rattle.units.specs.Replies.{done}
+use Rattle.units.specs.Laws.Replies.{none-refused}
 use Rattle.saturation_protector_buffer.specs.Rings.{allFinite, fitsRing, after, more}
 use Rattle.saturation_protector_buffer.specs.Ring.{capacity, empty, passes, push, reset}
 use Rattle.saturation_protector_buffer.specs.Calls.{pushed, forgotten}
 use Rattle.saturation_protector_buffer.specs.Steps.{Within}
 use Rattle.saturation_protector_buffer.specs.declared.Ring.{Ring}
-use Rattle.saturation_protector_buffer.specs.Laws.Tests.{done-both}
 use Rattle.saturation_protector_buffer.specs.Laws.Pushes.{after-inside, more-most}
 
 -- what a ring of n that passes has
@@ -118,12 +118,12 @@ module _ (r : Ring) (h : passes r ≡ true) where
 -- An accepted push is one of a finite number into a ring that passes.
 pub push-accepted : (r : Ring) (v : Float) → pushed r v .reply ≡ done → (passes r ≡ true) × (finite v ≡ true)
 unfolding pushed
-push-accepted r v h = done-both (passes r) (finite v) h
+push-accepted r v h = let k = none-refused true (passes r) (finite v) true h in (k .1, k .2)
 
 -- An accepted reset is one of a ring that passes.
 pub reset-accepted : (r : Ring) → forgotten r .reply ≡ done → passes r ≡ true
 unfolding forgotten
-reset-accepted r h = done-both (passes r) true h .0
+reset-accepted r h = none-refused true (passes r) true true h .1
 
 -- Every accepted push gives a ring that passes.
 pub accepted-push-passes : (r : Ring) (v : Float) → pushed r v .reply ≡ done → passes (pushed r v .ring) ≡ true

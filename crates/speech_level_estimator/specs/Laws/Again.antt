@@ -1,10 +1,9 @@
 -- Accepted states pass again: the one that `new` makes, and those after a frame and after a reset. And the published level keeps its range. Laws.
 -- Assumes nothing.
-use mathlib.Core.Path.{_≡_, refl}
+use mathlib.Core.Path.{_≡_}
 use mathlib.Core.Bool.{Bool, true, false, _&&_, cond}
 use mathlib.Core.List.{List, [], _∷_}
 use Prim.Native.Nat.{ℕ, _≤_, zero-le}
-use native.Mathlib.Omega.{arith}
 use borrow.Author.Tests.{leb-true, le-leb}
 use lib.Dec.{T, leb}
 use lib.Ieee.{Float, binary32, fits, eq}
@@ -13,7 +12,8 @@ use Rattle.lists.specs.Tests.{each-of, each-passed, _and_}
 use Rattle.floats.specs.Laws.Kinds.{passed as holds}
 use Rattle.units.specs.Figures.{rms, probability}
 use Rattle.units.specs.Ranges.{closed}
-use Rattle.units.specs.Replies.{done, refusal}
+use Rattle.units.specs.Replies.{done}
+use Rattle.units.specs.Laws.Replies.{none-refused}
 use Rattle.units.specs.Settings.{accepted, threshold}
 use Rattle.units.specs.declared.settings.Settings.{Settings}
 use Rattle.runs.specs.Runs as Runs
@@ -117,18 +117,11 @@ updated-passes e r p held f g h t =
     })
 
 -- ---- of the calls: where the reply is 0, the state that comes out passes
--- the replies 4 and 2 are not 0
-pub two : (setting figure : Bool) → refusal true setting figure true ≡ done → (setting ≡ true) × (figure ≡ true)
-unfolding refusal
-two true true h = (refl, refl)
-two true false h = absurd (omega arith)
-two false figure h = absurd (omega arith)
-
 -- A new estimator that is not refused passes.
 pub made-passes : (s : Settings) (t : ℕ) → HeldSettings s → made s t .reply ≡ done → passes (made s t .estimator) ≡ true
 unfolding made
 made-passes s t held h =
-    let ok = two (accepted s && threshold t) true h .0 in
+    let ok = none-refused true (accepted s && threshold t) true true h .1 in
     let p = each-of (accepted s ∷ threshold t ∷ []) ok in
     let a = holds (p 0) in
     let x = starting-level-in s held a .number .held in
@@ -139,14 +132,14 @@ pub stepped-passes : (e : Estimator) (r p : Float) → HeldEstimator e → T (fi
     → stepped e r p .reply ≡ done → passes (stepped e r p .estimator) ≡ true
 unfolding stepped
 stepped-passes e r p held f g h =
-    let k = two (passes e) (figures r p) h in
-    rw (k .0 and k .1) (updated-passes e r p held f g (k .0) (holds (k .1)))
+    let k = none-refused true (passes e) (figures r p) true h in
+    rw (k .1 and k .2) (updated-passes e r p held f g (k .1) (holds (k .2)))
 
 -- After a reset that is not refused the state passes.
 pub restarted-passes : (e : Estimator) → HeldEstimator e → restarted e .reply ≡ done → passes (restarted e .estimator) ≡ true
 unfolding restarted
 restarted-passes e held h =
-    let k = two (passes e) true h .0 in
+    let k = none-refused true (passes e) true true h .1 in
     let s = sound e k in
     rw k
     (fresh-passes (e .settings) (e .threshold) (e .initial) (held .settings) (held .initial) (s .settings) (s .threshold) (s .initial))
@@ -155,7 +148,7 @@ restarted-passes e held h =
 pub published-in-range : (e : Estimator) → levelTold e .reply ≡ done → closed lowest (levelTold e .level .0) highest ≡ true
 unfolding levelTold
 published-in-range e h =
-    let k = two (passes e) true h .0 in
+    let k = none-refused true (passes e) true true h .1 in
     rw k (sound e k .level)
 
 -- ---- and its numbers are f32
@@ -169,21 +162,21 @@ fresh-held s t x held f =
 pub made-held : (s : Settings) (t : ℕ) → HeldSettings s → made s t .reply ≡ done → HeldEstimator (made s t .estimator)
 unfolding made
 made-held s t held h =
-    let ok = two (accepted s && threshold t) true h .0 in
+    let ok = none-refused true (accepted s && threshold t) true true h .1 in
     rw ok (fresh-held s t (startingLevel s) held (starting-level-in s held (holds (each-of (accepted s ∷ threshold t ∷ []) ok 0)) .number .held))
 
 -- and so they are after a frame
 pub stepped-held : (e : Estimator) (r p : Float) → HeldEstimator e → T (fits binary32 r) → T (fits binary32 p) → stepped e r p .reply ≡ done → HeldEstimator (stepped e r p .estimator)
 unfolding stepped updated
 stepped-held e r p held f g h =
-    let k = two (passes e) (figures r p) h in
-    let s = sound e (k .0) in
-    let q = each-passed (rms r ∷ probability p ∷ []) (holds (k .1)) in
+    let k = none-refused true (passes e) (figures r p) true h in
+    let s = sound e (k .1) in
+    let q = each-passed (rms r ∷ probability p ∷ []) (holds (k .2)) in
     let pre = passed (e .preliminary) (held .preliminary) (s .preliminary) in
     let rel = passed (e .reliable) (held .reliable) (s .reliable) in
     let next = framed (speech p) (Average.advanced r p) (e .threshold) (run e) in
     let kept = framed-keeps Passed (speech p) (Average.advanced r p) (e .threshold) (run e) pre rel (λ (j : T (speech p)). advanced-passed (e .preliminary) r p pre f g (q 0) (q 1) j) in
-    rw (k .0 and k .1)
+    rw (k .1 and k .2)
     (record {
       settings = held .settings;
       initial = held .initial;
@@ -195,4 +188,4 @@ stepped-held e r p held f g h =
 -- and after a reset.
 pub restarted-held : (e : Estimator) → HeldEstimator e → restarted e .reply ≡ done → HeldEstimator (restarted e .estimator)
 unfolding restarted
-restarted-held e held h = rw (two (passes e) true h .0) (fresh-held (e .settings) (e .threshold) (e .initial) (held .settings) (held .initial))
+restarted-held e held h = rw (none-refused true (passes e) true true h .1) (fresh-held (e .settings) (e .threshold) (e .initial) (held .settings) (held .initial))

@@ -10,6 +10,7 @@ use lib.ListN.{length}
 use borrow.Author.Tests.{lt-leb}
 use Rattle.lists.specs.Each.{Each}
 use Rattle.units.specs.Replies.{done, refusal}
+use Rattle.units.specs.Laws.Replies.{none-refused}
 use Rattle.units.specs.Settings.{accepted, threshold}
 use Rattle.units.specs.declared.settings.Settings.{Settings}
 use Rattle.runs.specs.Runs as Runs
@@ -23,7 +24,7 @@ use Rattle.speech_level_estimator.specs.Calls.{made, stepped, restarted}
 use Rattle.speech_level_estimator.specs.Histories.{Pair, Accepted, fedOne, fed, frames, Ready, Untouched}
 use Rattle.speech_level_estimator.specs.declared.Average.{Average as State}
 use Rattle.speech_level_estimator.specs.declared.Estimator.{Estimator}
-use Rattle.speech_level_estimator.specs.Laws.Again.{two, stepped-passes, stepped-held}
+use Rattle.speech_level_estimator.specs.Laws.Again.{stepped-passes, stepped-held}
 
 -- An accepted frame is not refused,
 pub accepted-done : (e : Estimator) (f : Pair) → passes e ≡ true → Accepted f → stepped e (f .rms) (f .probability) .reply ≡ done
@@ -135,7 +136,7 @@ short-run-untouched e fs f h a b more settled none spoken short quiet =
 -- A new one that is not refused is,
 pub made-settled : (s : Settings) (t : ℕ) → made s t .reply ≡ done → Settled (run (made s t .estimator))
 unfolding made fresh
-made-settled s t h = rw (two (accepted s && threshold t) true h .0) (record { same = λ (e : _≡_ {A = ℕ} 0 0). refl })
+made-settled s t h = rw (none-refused true (accepted s && threshold t) true true h .1) (record { same = λ (e : _≡_ {A = ℕ} 0 0). refl })
 
 -- a settled one is still after an accepted frame, where the threshold is two or more,
 pub accepted-settled : (e : Estimator) (f : Pair) → passes e ≡ true → Accepted f → 1 < e .threshold → Settled (run e) → Settled (run (fedOne e f))
@@ -145,4 +146,4 @@ accepted-settled e f h a more s =
 -- and any is after a reset that is not refused.
 pub restarted-settled : (e : Estimator) → restarted e .reply ≡ done → Settled (run (restarted e .estimator))
 unfolding restarted fresh
-restarted-settled e h = rw (two (passes e) true h .0) (record { same = λ (k : _≡_ {A = ℕ} 0 0). refl })
+restarted-settled e h = rw (none-refused true (passes e) true true h .1) (record { same = λ (k : _≡_ {A = ℕ} 0 0). refl })

@@ -1,0 +1,2 @@
+-- What is true of the definitions beside this file.
+pub mod Replies
