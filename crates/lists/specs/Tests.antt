@@ -34,7 +34,7 @@ pub each-passed : (ts : List Bool) → T (allPass ts) → (i : ℕ) → T (getD 
 each-passed [] h i = tt
 each-passed (t ∷ ts) h i = from t ts h i
 
--- The same of tests that are known to be true.
+-- The same of tests that are known to be true. Where each of them is asked for by its statement, as in a record, `_ ∷ _ ∷ []` is enough of a list.
 pub each-of : (ts : List Bool) → allPass ts ≡ true → (i : ℕ) → getD ts i true ≡ true
 each-of ts h i = is-true (getD ts i true) (each-passed ts (subst T (sym h) tt) i)
 

@@ -2,7 +2,7 @@
 use mathlib.Core.Path.{_≡_}
 use mathlib.Core.Logic.{_⊎_, inl, inr}
 use mathlib.Core.Bool.{Bool, true, false, _||_, not}
-use mathlib.Core.List.{List, [], _∷_}
+use mathlib.Core.List.{[], _∷_}
 use Prim.Native.Nat.{ℕ, _+_, _≤_}
 use native.Mathlib.Omega.{arith}
 use lib.Dec.{T}
@@ -94,21 +94,11 @@ pub record InSettings (s : Set) : Type 0 where
   pub change : Boxed (from-to 0x3c23_d70a 0x42c8_0000) (s .change)
   pub noise : Boxed (from-to 0xc2b4_0000 0x0000_0000) (s .noise .0)
 
--- the tests of the settings, in the order of `accepted`
-abbrev tests : Set → List Bool
-tests s =
-    Settings.setting (ofBits binary32 0x0000_0000) (s .headroom .0) (ofBits binary32 0x4248_0000)
-    ∷ above (ofBits binary32 0x0000_0000) (s .largest .0) (ofBits binary32 0x4248_0000)
-    ∷ Settings.setting (ofBits binary32 0x0000_0000) (s .initial .0) (ofBits binary32 0x4248_0000)
-    ∷ Settings.setting (ofBits binary32 0x3c23_d70a) (s .change) (ofBits binary32 0x42c8_0000)
-    ∷ Settings.setting (ofBits binary32 0xc2b4_0000) (s .noise .0) (ofBits binary32 0x0000_0000)
-    ∷ []
-
 -- Settings that are accepted lie in their ranges.
 pub in-settings : (s : Set) → HeldSettings s → Settings.accepted s ≡ true → InSettings s
 unfolding Settings.accepted ofBits
 in-settings s t h =
-    let p = each-of (tests s) h in
+    let p = each-of (_ ∷ _ ∷ _ ∷ _ ∷ _ ∷ []) h in
     record {
       headroom = setting-box 0x0000_0000 0x4248_0000 tt tt (s .headroom .0) (t .headroom) (p 0);
       largest = above-box 0x0000_0000 0x4248_0000 tt tt (s .largest .0) (t .largest) (p 1);
@@ -128,7 +118,7 @@ pub record InFigures (i : Info) : Type 0 where
 pub in-figures : (i : Info) → HeldInfo i → accepted i ≡ true → InFigures i
 unfolding accepted ofBits
 in-figures i k h =
-    let p = each-of (Figures.probability (i .probability) ∷ Figures.level (i .level .0) ∷ Figures.level (i .noise .0) ∷ Figures.headroom (i .headroom .0) ∷ Figures.envelope (i .envelope .0) ∷ []) h in
+    let p = each-of (Figures.probability (i .probability) ∷ _ ∷ _ ∷ _ ∷ _ ∷ []) h in
     record {
       level = closed-box 0xc316_0000 0x4248_0000 tt tt (i .level .0) (k .level) (p 1);
       noise = closed-box 0xc316_0000 0x4248_0000 tt tt (i .noise .0) (k .noise) (p 2);

@@ -1,7 +1,7 @@
 -- A state that passes, given accepted figures, decides on a state that passes: its gain lies from 0 to 51, its factor from 1 to 355.
 use mathlib.Core.Path.{_≡_}
 use mathlib.Core.Bool.{Bool, true, false, _&&_, cond}
-use mathlib.Core.List.{List, [], _∷_}
+use mathlib.Core.List.{[], _∷_}
 use Prim.Native.Nat.{ℕ, _-_, _≤_, _<_}
 use native.Mathlib.Omega.{arith}
 use borrow.Author.Tests.{leb-true, le-leb, ne-eqb}
@@ -43,24 +43,11 @@ pub record Passed (c : Controller) : Type 0 where
   pub last : le (c .applier .last) largest ≡ true
   pub current : le (c .applier .current) largest ≡ true
 
--- the eight tests, in the order of `passes`
-abbrev tests : Controller → List Bool
-tests c =
-    Settings.accepted (c .settings)
-    ∷ Settings.threshold (c .threshold)
-    ∷ eq (c .change) (perFrame (c .settings .change))
-    ∷ leb (c .waiting) (c .threshold)
-    ∷ Figures.gain (c .gain)
-    ∷ Applier.passes (c .applier)
-    ∷ le (c .applier .last) largest
-    ∷ le (c .applier .current) largest
-    ∷ []
-
 -- A state that passes has passed each of the eight tests.
 pub passed-all : (c : Controller) → passes c ≡ true → Passed c
 unfolding passes
 passed-all c h =
-    let p = each-of (tests c) h in
+    let p = each-of (_ ∷ _ ∷ _ ∷ _ ∷ _ ∷ _ ∷ _ ∷ _ ∷ []) h in
     record { settings = p 0; threshold = p 1; change = p 2; waiting = p 3; gain = p 4; applier = p 5; last = p 6; current = p 7 }
 
 -- And what has passed all eight passes.

@@ -1,8 +1,8 @@
 -- What a chain that passes has, and what is accepted of figures; settings that are accepted are alike with themselves. Laws.
 -- Assumes nothing.
 use mathlib.Core.Path.{_≡_}
-use mathlib.Core.Bool.{Bool, true}
-use mathlib.Core.List.{List, [], _∷_}
+use mathlib.Core.Bool.{true}
+use mathlib.Core.List.{[], _∷_}
 use lib.Dec.{T, eqb}
 use lib.Ieee.{Float, binary32, fits, ofBits, eq, le, lt, size as bits}
 use lib.Ieee.Bits.{is-true}
@@ -37,24 +37,11 @@ pub record Passed (c : Chain) : Type 0 where
   pub settings : alike (c .estimator .settings) (c .controller .settings) ≡ true
   pub start : eq (c .protector .initial) initial ≡ true
 
--- the eight tests, in the order of `passes`
-abbrev tests : Chain → List Bool
-tests c =
-    Level.passes (c .estimator)
-    ∷ Headroom.passes (c .protector)
-    ∷ Gain.passes (c .controller)
-    ∷ Limiting.passes (c .limiter)
-    ∷ eqb (c .estimator .threshold) (c .protector .threshold)
-    ∷ eqb (c .estimator .threshold) (c .controller .threshold)
-    ∷ alike (c .estimator .settings) (c .controller .settings)
-    ∷ eq (c .protector .initial) initial
-    ∷ []
-
 -- A chain that passes has passed each of the eight tests.
 pub passed-all : (c : Chain) → passes c ≡ true → Passed c
 unfolding passes
 passed-all c h =
-    let p = each-of (tests c) h in
+    let p = each-of (_ ∷ _ ∷ _ ∷ _ ∷ _ ∷ _ ∷ _ ∷ _ ∷ []) h in
     record { estimator = p 0; protector = p 1; controller = p 2; limiter = p 3; second = p 4; third = p 5; settings = p 6; start = p 7 }
 
 -- And what has passed all eight passes.
@@ -74,7 +61,7 @@ pub record Inside (f : Figures) : Type 0 where
 pub inside : (f : Figures) → accepted f ≡ true → Inside f
 unfolding accepted
 inside f h =
-    let p = each-of (Range.probability (f .probability) ∷ Range.rms (f .rms .0) ∷ Range.level (f .peak .0) ∷ Range.level (f .noise .0) ∷ Range.envelope (f .envelope .0) ∷ []) h in
+    let p = each-of (_ ∷ _ ∷ _ ∷ _ ∷ _ ∷ []) h in
     record { probability = p 0; rms = p 1; peak = p 2; noise = p 3; envelope = p 4 }
 
 -- A published level, from -90 to 30, is a level of the speech, from -150 to 50.

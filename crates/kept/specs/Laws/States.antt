@@ -73,7 +73,7 @@ pub record Flags (k : KeptChain) : Type 0 where
 pub flags : (k : KeptChain) → soundChain k ≡ true → Flags k
 unfolding soundChain
 flags k h =
-    let p = each-of (isFlag (k .estimator .confident) ∷ isFlag (k .controller .applier .clip) ∷ soundLimiter (k .limiter) ∷ []) h in
+    let p = each-of (_ ∷ _ ∷ _ ∷ []) h in
     record { confident = p 0; clip = p 1; limiter = p 2 }
 
 -- What is kept of the chain inside is what came in, where that is sound.

@@ -2,7 +2,7 @@
 -- Assumes nothing.
 use mathlib.Core.Path.{_≡_, refl, sym, _∙_}
 use mathlib.Core.Bool.{Bool, true, false, cond, false≢true}
-use mathlib.Core.List.{List, [], _∷_}
+use mathlib.Core.List.{[], _∷_}
 use Prim.Native.Nat.{_≤_, _%_}
 use lib.Dec.{leb, eqb}
 use lib.Ieee.{Float, nan, inf, fin, ofBits, le, lt, eq}
@@ -56,7 +56,7 @@ pub record Passed (s : State) : Type 0 where
 pub passed : (s : State) → Peaks.passes s ≡ true → Passed s
 unfolding Peaks.passes
 passed s h =
-    let p = each-of (headroom (s .headroom) ∷ Ring.passes (s .ring) ∷ allLevels (s .ring .stored) ∷ level (s .largest) ∷ time (s .elapsed) ∷ []) h in
+    let p = each-of (_ ∷ _ ∷ _ ∷ _ ∷ _ ∷ []) h in
     record { headroom = p 0; ring = p 1; stored = p 2; largest = p 3; time = p 4 }
 
 -- And what has all five passes.
@@ -81,22 +81,11 @@ pub record PassedWhole (s : Whole) : Type 0 where
   pub preliminary : Peaks.passes (s .preliminary) ≡ true
   pub reliable : Peaks.passes (s .reliable) ≡ true
 
--- the six tests, in the order of `passes`
-abbrev tests : Whole → List Bool
-tests s =
-    headroom (s .initial)
-    ∷ threshold (s .threshold)
-    ∷ leb (s .count) (s .threshold)
-    ∷ headroom (s .headroom)
-    ∷ Peaks.passes (s .preliminary)
-    ∷ Peaks.passes (s .reliable)
-    ∷ []
-
 -- What a protector that passes has.
 pub passed-whole : (s : Whole) → Protector.passes s ≡ true → PassedWhole s
 unfolding Protector.passes
 passed-whole s h =
-    let p = each-of (tests s) h in
+    let p = each-of (_ ∷ _ ∷ _ ∷ _ ∷ _ ∷ _ ∷ []) h in
     record { initial = p 0; threshold = p 1; count = leb-true (s .count) (s .threshold) (p 2); headroom = p 3; preliminary = p 4; reliable = p 5 }
 
 -- And what has all six passes.

@@ -2,7 +2,7 @@
 -- Assumes nothing.
 use mathlib.Core.Path.{_≡_}
 use mathlib.Core.Bool.{Bool, true, false, _&&_, cond}
-use mathlib.Core.List.{List, [], _∷_}
+use mathlib.Core.List.{[], _∷_}
 use Prim.Native.Nat.{ℕ, _≤_, zero-le}
 use borrow.Author.Tests.{leb-true, le-leb}
 use lib.Dec.{T, leb}
@@ -55,23 +55,11 @@ pub record Sound (e : Estimator) : Type 0 where
   pub preliminary : Average.passes (e .preliminary) ≡ true
   pub reliable : Average.passes (e .reliable) ≡ true
 
--- the seven tests, in the order of `passes`
-abbrev tests : Estimator → List Bool
-tests e =
-    accepted (e .settings)
-    ∷ threshold (e .threshold)
-    ∷ eq (e .initial) (startingLevel (e .settings))
-    ∷ closed lowest (e .level) highest
-    ∷ leb (e .count) (e .threshold)
-    ∷ Average.passes (e .preliminary)
-    ∷ Average.passes (e .reliable)
-    ∷ []
-
 -- What a state that passes has passed.
 pub sound : (e : Estimator) → passes e ≡ true → Sound e
 unfolding passes
 sound e h =
-    let p = each-of (tests e) h in
+    let p = each-of (_ ∷ _ ∷ _ ∷ _ ∷ _ ∷ _ ∷ _ ∷ []) h in
     record { settings = p 0; threshold = p 1; initial = p 2; level = p 3; count = p 4; preliminary = p 5; reliable = p 6 }
 
 -- And what has all seven passes.
