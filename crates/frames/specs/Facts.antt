@@ -3,14 +3,15 @@
 use mathlib.Core.Path.{_≡_, refl, sym, ap, _∙_}
 use mathlib.Core.Bool.{Bool, true, false, _&&_, false≢true, and-assoc}
 use mathlib.Core.List.{List, [], _∷_, _++_}
-use Prim.Native.Nat.{ℕ, _+_, _*_, _%_, _≤_, _<_}
-use native.Mathlib.Omega.{arith}
-use lib.Dec.{leb, eqb}
+use Prim.Native.Nat.{ℕ, _*_, _%_, _≤_, _<_}
+use lib.Dec.{leb}
 use lib.ListN.{length, getD, take, drop, take-append-drop}
 use lib.Ieee.{Float, nan}
 use borrow.Author.Tests.{leb-true, eqb-true}
 use Rattle.lists.specs.Stores.{next}
+use Rattle.lists.specs.Tests.{each-of}
 use Rattle.units.specs.Replies.{refusal, done}
+use Rattle.units.specs.Laws.Replies.{none-refused}
 use Rattle.frames.specs.Shape.{isSamples, isShape}
 use Rattle.frames.specs.Samples.{within, allWithin}
 use Rattle.frames.specs.Refusal.{frameRefusal}
@@ -25,14 +26,6 @@ pub and-second : (a b : Bool) → a && b ≡ true → b ≡ true
 and-second true b h = h
 and-second false b h = absurd (false≢true h)
 
--- Where five pass, each does.
-pub each-of-five : (a b c d e : Bool) → a && b && c && d && e ≡ true → (a ≡ true) × (b ≡ true) × (c ≡ true) × (d ≡ true) × (e ≡ true)
-each-of-five a b c d e h =
-    let four = and-first (a && b && c && d) e h in
-    let three = and-first (a && b && c) d four in
-    let two = and-first (a && b) c three in
-    (and-first a b two, and-second a b two, and-second (a && b) c three, and-second (a && b && c) d four, and-second (a && b && c && d) e h)
-
 -- a channel's number of samples
 pub record Samples (samples : ℕ) : Type 0 where
   pub least : 40 ≤ samples
@@ -43,12 +36,8 @@ pub record Samples (samples : ℕ) : Type 0 where
 pub samples-facts : (samples : ℕ) → isSamples samples ≡ true → Samples samples
 unfolding isSamples
 samples-facts samples h =
-    let range = and-first (leb 40 samples && leb samples 480) (eqb (samples % 20) 0) h in
-    record {
-      least = leb-true 40 samples (and-first (leb 40 samples) (leb samples 480) range);
-      most = leb-true samples 480 (and-second (leb 40 samples) (leb samples 480) range);
-      whole = eqb-true (samples % 20) 0 (and-second (leb 40 samples && leb samples 480) (eqb (samples % 20) 0) h);
-    }
+    let p = each-of (_ ∷ _ ∷ _ ∷ []) h in
+    record { least = leb-true 40 samples (p 0); most = leb-true samples 480 (p 1); whole = eqb-true (samples % 20) 0 (p 2) }
 
 -- the number of channels, and that of the samples of each
 pub record Sizes (channels samples : ℕ) : Type 0 where
@@ -59,20 +48,15 @@ pub record Sizes (channels samples : ℕ) : Type 0 where
 -- What is known of the sizes of a frame where they pass.
 pub sizes-facts : (channels samples : ℕ) → leb 1 channels && leb channels 8 && isSamples samples ≡ true → Sizes channels samples
 sizes-facts channels samples h =
-    let range = and-first (leb 1 channels && leb channels 8) (isSamples samples) h in
-    record {
-      one = leb-true 1 channels (and-first (leb 1 channels) (leb channels 8) range);
-      eight = leb-true channels 8 (and-second (leb 1 channels) (leb channels 8) range);
-      each = samples-facts samples (and-second (leb 1 channels && leb channels 8) (isSamples samples) h);
-    }
+    let p = each-of (_ ∷ _ ∷ _ ∷ []) h in
+    record { one = leb-true 1 channels (p 0); eight = leb-true channels 8 (p 1); each = samples-facts samples (p 2) }
 
 -- What is known of a frame whose shape passes: its sizes, and that its length is exactly the product.
 pub shape-facts : (channels samples length : ℕ) → isShape channels samples length ≡ true → Sizes channels samples × (length ≡ channels * samples)
 unfolding isShape
 shape-facts channels samples length h =
-    let small = leb 1 channels && leb channels 8 && isSamples samples in
-    let exact = eqb length (channels * samples) in
-    (sizes-facts channels samples (and-first small exact h), eqb-true length (channels * samples) (and-second small exact h))
+    let p = each-of (_ ∷ _ ∷ []) h in
+    (sizes-facts channels samples (p 0), eqb-true length (channels * samples) (p 1))
 
 -- what a frame that is not refused has passed
 pub record Taken (frame : List Float) (channels samples : ℕ) (set setting figure : Bool) (bound : Float) : Type 0 where
@@ -82,30 +66,14 @@ pub record Taken (frame : List Float) (channels samples : ℕ) (set setting figu
   pub figures : figure ≡ true
   pub sound : allWithin bound frame ≡ true
 
--- the replies 1, 4, 2 and 3 are not 0
-all-four : (shape setting figure sample : Bool)
-    → refusal shape setting figure sample ≡ done → (shape ≡ true) × (setting ≡ true) × (figure ≡ true) × (sample ≡ true)
-unfolding refusal
-all-four true true true true h = (refl, refl, refl, refl)
-all-four true true true false h = absurd (omega arith)
-all-four true true false sample h = absurd (omega arith)
-all-four true false figure sample h = absurd (omega arith)
-all-four false setting figure sample h = absurd (omega arith)
-
 module _ (frame : List Float) (channels samples : ℕ) (set setting figure : Bool) (bound : Float) where
   -- A frame that is not refused has passed every test.
   pub taken : frameRefusal frame channels samples set setting figure bound ≡ done → Taken frame channels samples set setting figure bound
   unfolding frameRefusal
   taken h =
-      let shape = isShape channels samples (length frame) in
-      let four = all-four (shape && set) setting figure (allWithin bound frame) h in
-      record {
-        shape = and-first shape set (four .0);
-        same = and-second shape set (four .0);
-        settings = four .1;
-        figures = four .2;
-        sound = four .3;
-      }
+      let four = none-refused (isShape channels samples (length frame) && set) setting figure (allWithin bound frame) h in
+      let two = each-of (_ ∷ _ ∷ []) (four .0) in
+      record { shape = two 0; same = two 1; settings = four .1; figures = four .2; sound = four .3 }
 
   -- A frame that passes every test is not refused.
   pub not-refused : Taken frame channels samples set setting figure bound → frameRefusal frame channels samples set setting figure bound ≡ done
@@ -124,15 +92,13 @@ module _ (bound : Float) (n : ℕ) (xs : List Float) (h : allWithin bound xs ≡
 
   -- Where all samples are within the bound, the first n are.
   pub within-take : allWithin bound (take n xs) ≡ true
-  within-take = and-first (allWithin bound (take n xs)) (allWithin bound (drop n xs)) halves
+  within-take = each-of (_ ∷ _ ∷ []) halves 0
 
   -- Where all samples are within the bound, those after the first n are.
   pub within-drop : allWithin bound (drop n xs) ≡ true
-  within-drop = and-second (allWithin bound (take n xs)) (allWithin bound (drop n xs)) halves
+  within-drop = each-of (allWithin bound (take n xs) ∷ _ ∷ []) halves 1
 
   -- Where all samples are within the bound, each is.
   pub within-at : n < length xs → within bound (getD xs n nan) ≡ true
   unfolding allWithin
-  within-at in-range =
-      and-first (within bound (getD xs n nan)) (allWithin bound (drop (n + 1) xs))
-      (ap (allWithin bound) (sym (next xs n nan in-range)) ∙ within-drop)
+  within-at in-range = each-of (_ ∷ _ ∷ []) (ap (allWithin bound) (sym (next xs n nan in-range)) ∙ within-drop) 0

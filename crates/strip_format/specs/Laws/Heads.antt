@@ -3,25 +3,27 @@
 use mathlib.Core.Path.{_≡_, refl, sym, ap, subst, _∙_}
 use mathlib.Core.Bool.{Bool, true, false, not, _&&_, cond}
 use mathlib.Core.List.{List, [], _∷_, _++_}
-use Prim.Native.Nat.{ℕ, _+_, _%_, _^_, _≤_, _<_}
+use Prim.Native.Nat.{ℕ, _+_, _^_, _≤_, _<_}
 use native.Mathlib.Omega.{arith}
-use borrow.Author.Tests.{eqb-true}
-use lib.Dec.{T, eqb, leb, leb→le}
+use borrow.Author.Tests.{leb-true, eqb-true}
+use lib.Dec.{T, eqb, leb}
 use lib.Ieee.{binary32, fits}
-use lib.Ieee.Fits.{and-l, and-r}
 use lib.ListN.{length, getD, take, drop, length-append, take-append-drop}
+use Rattle.lists.specs.Tests.{each-of}
 use Rattle.bits.specs.Floats.{floatOf, patternOf}
 use Rattle.bits.specs.Laws.RoundTrip.{float-fits, pattern-small, float-back}
 use Rattle.units.specs.Replies.{done}
+use Rattle.units.specs.Laws.Replies.{none-refused}
 use Rattle.units.specs.Settings as Settings
 use Rattle.frames.specs.Shape.{isSamples}
+use Rattle.frames.specs.Facts.{samples-facts}
 use Rattle.strip_format.specs.Fields.{numberAt, size, written, fieldsAt}
 use Rattle.strip_format.specs.Format.{Version, one, headFields, headLength, headNumbers, headOf, headBytes}
 use Rattle.strip_format.specs.Calls.{headRefusal, refusedHead, judgedHead, readHead, putHead}
 use Rattle.strip_format.specs.Steps.{headPlace}
 use Rattle.strip_format.specs.Laws.Steps.{HeadThere, head-by-place, head-there, head-placed, put-done}
 use Rattle.strip_format.specs.Laws.Fields.{Fits, Bytes, number-small, written-length, numbers-back, bytes-back}
-use Rattle.strip_format.specs.Laws.NoNan.{PlainSettings, plain-settings, none-refused, same-bits}
+use Rattle.strip_format.specs.Laws.NoNan.{PlainSettings, plain-settings, same-bits}
 use Rattle.strip_format.specs.declared.Head.{Head}
 use Rattle.strip_format.specs.declared.HeadRead.{HeadRead}
 
@@ -45,19 +47,17 @@ record Accepted (h : Head) : Type 0 where
   plain : PlainSettings (h .settings)
 
 accepted-is : (h : Head) → headRefusal h ≡ done → Accepted h
-unfolding headRefusal isSamples
+unfolding headRefusal
 accepted-is h e =
     let s = h .samples in
-    let parts = none-refused (isSamples s) (Settings.accepted (h .settings) && Settings.threshold (h .threshold)) true e in
-    let upper : s ≤ 480 = leb→le s 480 (and-r (leb 40 s) (leb s 480) (and-l (leb 40 s && leb s 480) (eqb (s % 20) 0) (parts .0))) in
-    let most : h .threshold ≤ 200 =
-    leb→le (h .threshold) 200
-    (and-r (leb 1 (h .threshold)) (leb (h .threshold) 200)
-    (and-r (Settings.accepted (h .settings)) (Settings.threshold (h .threshold)) (parts .1))) in
+    let parts = none-refused (isSamples s) (Settings.accepted (h .settings) && Settings.threshold (h .threshold)) true true e in
+    let upper : s ≤ 480 = samples-facts s (parts .0) .most in
+    let p = each-of (Settings.accepted (h .settings) ∷ Settings.threshold (h .threshold) ∷ []) (parts .1) in
+    let most : h .threshold ≤ 200 = leb-true (h .threshold) 200 (each-of (leb 1 (h .threshold) ∷ leb (h .threshold) 200 ∷ []) (p 1) 1) in
     record {
       threshold = omega arith;
       samples = omega arith;
-      plain = plain-settings (h .settings) (and-l (Settings.accepted (h .settings)) (Settings.threshold (h .threshold)) (parts .1));
+      plain = plain-settings (h .settings) (p 0);
     }
 
 module _ (v : Version) where

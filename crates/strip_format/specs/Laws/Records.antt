@@ -13,6 +13,7 @@ use lib.Seq.{length-take-le, drop-drop}
 use Rattle.bits.specs.Floats.{floatOf, patternOf}
 use Rattle.bits.specs.Laws.RoundTrip.{float-fits, pattern-small, float-back}
 use Rattle.units.specs.Replies.{done}
+use Rattle.units.specs.Laws.Replies.{none-refused}
 use Rattle.units.specs.Figures as Figure
 use Rattle.units.specs.declared.figures.Figures.{Figures}
 use Rattle.strip_format.specs.Fields.{numberAt, size, written, fieldsAt}
@@ -21,7 +22,7 @@ use Rattle.strip_format.specs.Calls.{recordRefusal, refusedRecord, judge
 use Rattle.strip_format.specs.Steps.{recordPlace}
 use Rattle.strip_format.specs.Laws.Steps.{RecordThere, record-by-place, record-there, record-placed, put-done}
 use Rattle.strip_format.specs.Laws.Fields.{Fits, Bytes, written-length, numbers-back, bytes-back}
-use Rattle.strip_format.specs.Laws.NoNan.{PlainFigures, plain-figures, none-refused, same-bits}
+use Rattle.strip_format.specs.Laws.NoNan.{PlainFigures, plain-figures, same-bits}
 use Rattle.strip_format.specs.declared.Found.the-variants.{Record}
 use Rattle.strip_format.specs.declared.RecordRead.{RecordRead}
 
@@ -39,7 +40,7 @@ found f = record { reply = done; found = Record f }
 
 plain : (f : Figures) → recordRefusal f ≡ done → PlainFigures f
 unfolding recordRefusal
-plain f e = plain-figures f (none-refused true true (Figure.accepted f) e .2)
+plain f e = plain-figures f (none-refused true true (Figure.accepted f) true e .2)
 
 -- ---- written, then read
 fits-fields : (f : Figures) → Held f → Fits recordFields (recordNumbers f)
