@@ -1,32 +1,27 @@
 -- Accepted states pass again: the one that `new` makes, and those after a frame and after another factor was set.
 use mathlib.Core.Path.{_≡_, refl, _∙_}
 use mathlib.Core.Bool.{Bool, true, false, _&&_, cond, false≢true}
-use mathlib.Core.List.{List}
-use Prim.Native.Nat.{ℕ, _+_, _*_}
+use mathlib.Core.List.{List, [], _∷_}
+use Prim.Native.Nat.{ℕ, _+_}
 use native.Mathlib.Omega.{arith}
-use lib.Dec.{T, leb, eqb, eqb-refl}
+use lib.Dec.{leb, eqb, eqb-refl}
 use lib.ListN.{length}
 use lib.IntN.{pos, negsuc}
 use lib.Ieee.{Float, binary32, ofBits, ofInt, div, eq, size as bits}
+use lib.Ieee.Bits.{is-true}
+use Rattle.lists.specs.Tests.{each-of, _and_}
 use Rattle.rounding.specs.Units.{P, N, Number}
 use Rattle.rounding.specs.Laws.Order.{eq-units}
 use Rattle.units.specs.Figures.{gainFactor}
-use Rattle.units.specs.Replies.{done, refusal}
+use Rattle.units.specs.Replies.{done}
+use Rattle.units.specs.Laws.Replies.{none-refused}
 use Rattle.frames.specs.Shape.{isSamples, isShape}
 use Rattle.frames.specs.Samples.{largestInput}
 use Rattle.frames.specs.Refusal.{frameRefusal}
-use Rattle.frames.specs.Facts.{and-first, and-second, samples-facts, taken}
+use Rattle.frames.specs.Facts.{samples-facts, taken}
 use Rattle.gain_applier.specs.declared.Applier.{Applier}
 use Rattle.gain_applier.specs.Applier.{remembered, inverseOf, passes, starting, none, made, arrived, applied, aimed}
 use Rattle.gain_applier.specs.Laws.Inverse.{inverse-number}
-
--- a test that passed is true
-so : (b : Bool) → T b → b ≡ true
-so true t = refl
-so false t = absurd t
-
-all-true : {a b c d : Bool} → a ≡ true → b ≡ true → c ≡ true → d ≡ true → a && b && c && d ≡ true
-all-true p q r s = rw (p, q, r, s)
 
 -- what a state that passes has passed
 pub record Passed (a : Applier) : Type 0 where
@@ -39,22 +34,17 @@ pub record Passed (a : Applier) : Type 0 where
 pub passed : (a : Applier) → passes a ≡ true → Passed a
 unfolding passes
 passed a h =
-    let l = gainFactor (a .last) in
-    let c = gainFactor (a .current) in
-    let r = remembered (a .samples) in
-    let i = eq (a .inverse) (inverseOf (a .samples)) in
-    let three = and-first (l && c && r) i h in
-    let two = and-first (l && c) r three in
-    record { last = and-first l c two; current = and-second l c two; samples = and-second (l && c) r three; inverse = and-second (l && c && r) i h }
+    let p = each-of (_ ∷ _ ∷ _ ∷ _ ∷ []) h in
+    record { last = p 0; current = p 1; samples = p 2; inverse = p 3 }
 
 -- And what has all four passes.
 pub passing : (a : Applier) → Passed a → passes a ≡ true
 unfolding passes
-passing a p = all-true (p .last) (p .current) (p .samples) (p .inverse)
+passing a p = p .last and p .current and p .samples and p .inverse
 
 -- A number equals itself.
 pub equals-itself : (x : Float) → Number x → eq x x ≡ true
-equals-itself x n = eq-units x x n n ∙ so (eqb (P x + N x) (P x + N x)) (eqb-refl (P x + N x))
+equals-itself x n = eq-units x x n n ∙ is-true (eqb (P x + N x) (P x + N x)) (eqb-refl (P x + N x))
 
 -- Before the first frame the samples are -1, and so is 1 over them.
 minus-one : eq (ofBits binary32 0xbf80_0000) (inverseOf (negsuc 0)) ≡ true
@@ -64,7 +54,7 @@ minus-one = refl
 -- The state of a new applier passes.
 pub starting-passes : (clip : Bool) (factor : Float) → gainFactor factor ≡ true → passes (starting clip factor) ≡ true
 unfolding passes starting remembered
-starting-passes clip factor g = all-true g g refl minus-one
+starting-passes clip factor g = g and g and refl and minus-one
 
 -- The state after a frame passes.
 pub arrived-passes : (a : Applier) (n : ℕ) → passes a ≡ true → isSamples n ≡ true → passes (arrived a n) ≡ true
@@ -72,14 +62,14 @@ unfolding passes arrived remembered
 arrived-passes a n h s =
     let p = passed a h in
     let f = samples-facts n s in
-    all-true (p .current) (p .current) s (equals-itself (inverseOf (pos n)) (inverse-number n (omega arith) (f .most)))
+    p .current and p .current and s and equals-itself (inverseOf (pos n)) (inverse-number n (omega arith) (f .most))
 
 -- The state with another factor to come passes.
 pub aimed-passes : (a : Applier) (factor : Float) → passes a ≡ true → gainFactor factor ≡ true → passes (aimed a factor .applier) ≡ true
 unfolding aimed passes
 aimed-passes a factor h g =
     let p = passed a h in
-    go (passes a && gainFactor factor) (all-true (p .last) g (p .samples) (p .inverse))
+    go (passes a && gainFactor factor) (p .last and g and p .samples and p .inverse)
   where
     next : Applier
     next = record { clip = a .clip; last = a .last; current = factor; samples = a .samples; inverse = a .inverse }
@@ -89,18 +79,11 @@ aimed-passes a factor h g =
     go false k = h
 
 -- ---- of the calls: where the reply is 0, the state that comes out passes
--- the replies 4 and 2 are not 0
-two : (setting figure : Bool) → refusal true setting figure true ≡ done → (setting ≡ true) × (figure ≡ true)
-unfolding refusal
-two true true h = (refl, refl)
-two true false h = absurd (omega arith)
-two false figure h = absurd (omega arith)
-
 -- A new applier that is not refused passes.
 pub made-passes : (clip : Bool) (factor : Float) → made clip factor .reply ≡ done → passes (made clip factor .applier) ≡ true
 unfolding made
 made-passes clip factor h =
-    let g = two true (gainFactor factor) h .1 in
+    let g = none-refused true true (gainFactor factor) true h .2 in
     go (gainFactor factor) g (starting-passes clip factor g)
   where
     go : (b : Bool) → b ≡ true → passes (starting clip factor) ≡ true → passes (cond b (starting clip factor) none) ≡ true
@@ -110,9 +93,7 @@ made-passes clip factor h =
 -- A frame whose shape passes has samples that do.
 pub samples-pass : (channels samples length : ℕ) → isShape channels samples length ≡ true → isSamples samples ≡ true
 unfolding isShape
-samples-pass channels samples length h =
-    let range = leb 1 channels && leb channels 8 in
-    and-second range (isSamples samples) (and-first (range && isSamples samples) (eqb length (channels * samples)) h)
+samples-pass channels samples length h = each-of (leb 1 channels ∷ leb channels 8 ∷ _ ∷ _ ∷ []) h 2
 
 -- After a frame that is not refused the state passes.
 pub applied-passes : (a : Applier) (frame : List Float) (channels samples : ℕ)
@@ -130,4 +111,4 @@ applied-passes a frame channels samples h =
 -- After another factor that is not refused the state passes.
 pub set-passes : (a : Applier) (factor : Float) → aimed a factor .reply ≡ done → passes (aimed a factor .applier) ≡ true
 unfolding aimed
-set-passes a factor h = let t = two (passes a) (gainFactor factor) h in aimed-passes a factor (t .0) (t .1)
+set-passes a factor h = let t = none-refused true (passes a) (gainFactor factor) true h in aimed-passes a factor (t .1) (t .2)

@@ -11,6 +11,8 @@ use lib.Dec.{T}
 use lib.IntN.{ℤ, pos}
 use lib.ListN.{length, take, drop, length-take}
 use lib.Ieee.{Float, nan, inf, fin, binary32, ofBits, add, mul, le, lt, eq, fits, isNan}
+use lib.Ieee.Bits.{is-true}
+use Rattle.lists.specs.Tests.{each-passed, each-of}
 use Rattle.lists.specs.Each.{Each, each-take, each-drop, each-append, each-so}
 use Rattle.rounding.specs.Units.{U, size, P, N, Number, Value, In}
 use Rattle.rounding.specs.Loops.{added, Within}
@@ -20,6 +22,7 @@ use Rattle.rounding.specs.Laws.Operations.{mul-rounds}
 use Rattle.rounding.specs.Laws.Between.{in-real}
 use Rattle.rounding.specs.Laws.Exact.{constant-number}
 use Rattle.floats.specs.Kinds.{magnitude}
+use Rattle.floats.specs.Laws.Kinds.{passed as holds}
 use Rattle.intervals.specs.Laws.Choice.{clamp-in}
 use Rattle.units.specs.Figures.{gainFactor}
 use Rattle.units.specs.Replies.{done}
@@ -27,20 +30,13 @@ use Rattle.frames.specs.Shape.{isSamples}
 use Rattle.frames.specs.Parts.{eachPart}
 use Rattle.frames.specs.Samples.{largestInput, largestLevel, within, allWithin}
 use Rattle.frames.specs.Squares.{without-sign}
-use Rattle.frames.specs.Facts.{and-first, and-second, samples-facts, taken}
+use Rattle.frames.specs.Facts.{samples-facts, taken}
 use Rattle.gain_applier.specs.declared.Applier.{Applier}
 use Rattle.gain_applier.specs.Sound.{closeToOne, scaled, ramped, clipped, stepOf, gained, finished}
 use Rattle.gain_applier.specs.Applier.{inverseOf, passes, applied}
 use Rattle.gain_applier.specs.Range.{UpTo, Sized, Plain, Sixteen, Held}
 use Rattle.gain_applier.specs.Laws.Again.{Passed, passed, samples-pass}
 use Rattle.gain_applier.specs.Laws.Ramp.{ramp-close}
-
-holds : {b : Bool} → b ≡ true → T b
-holds p = rw p tt
-
-is-true : (b : Bool) → T b → b ≡ true
-is-true true t = refl
-is-true false t = absurd t
 
 -- ---- the ends, in units
 input-value : Value largestInput (65536 * U) 0
@@ -157,9 +153,8 @@ pub samples-sized : (xs : List Float) → Held xs → allWithin largestInput xs 
 unfolding allWithin Each
 samples-sized [] f h = tt
 samples-sized (x ∷ xs) f h =
-    let first = within largestInput x in
-    let others = allWithin largestInput xs in
-    (sample-sized x (f 0) (and-first first others h), samples-sized xs (λ (i : ℕ). f (suc i)) (and-second first others h))
+    let p = each-of (_ ∷ _ ∷ []) h in
+    (sample-sized x (f 0) (p 0), samples-sized xs (λ (i : ℕ). f (suc i)) (p 1))
 
 -- Samples of at most 33554432 * U units are within 33554432.
 pub all-sized : (xs : List Float) → Each (Sized (33554432 * U)) xs → allWithin largestLevel xs ≡ true
@@ -342,15 +337,14 @@ from-nought hi x c h f a b =
 -- A gain factor has at most 512 * U units.
 pub factor-512 : (x : Float) → T (fits binary32 x) → gainFactor x ≡ true → UpTo (512 * U) x
 factor-512 x f g =
-    let a = holds (and-first (lt nought x) (lt x limit-512) g) in
-    let b = holds (and-second (lt nought x) (lt x limit-512) g) in
-    from-nought limit-512 x (512 * U) value-512 f (lt-le nought x a) (lt-le x limit-512 b)
+    let p = each-passed (lt nought x ∷ lt x limit-512 ∷ []) (holds g) in
+    from-nought limit-512 x (512 * U) value-512 f (lt-le nought x (p 0)) (lt-le x limit-512 (p 1))
 
 -- A gain factor up to 355 has at most 355 * U units.
 pub factor-355 : (x : Float) → T (fits binary32 x) → gainFactor x ≡ true → le x limit-355 ≡ true → UpTo (355 * U) x
 factor-355 x f g h =
-    let a = holds (and-first (lt nought x) (lt x limit-512) g) in
-    from-nought limit-355 x (355 * U) value-355 f (lt-le nought x a) (holds h)
+    let p = each-passed (lt nought x ∷ lt x limit-512 ∷ []) (holds g) in
+    from-nought limit-355 x (355 * U) value-355 f (lt-le nought x (p 0)) (holds h)
 
 module _ (a : Applier) (frame : List Float) (channels samples : ℕ) (held : Held frame) (f : T (fits binary32 (a .last))) (g : T (fits binary32 (a .current)))
     (ok : applied a frame channels samples .next .reply ≡ done) where
