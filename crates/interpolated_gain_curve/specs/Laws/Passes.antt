@@ -1,14 +1,16 @@
 -- A new curve passes its test, and so does every state that an accepted look-up answers.
-use mathlib.Core.Path.{_≡_, refl}
+use mathlib.Core.Path.{_≡_}
 use mathlib.Core.Bool.{Bool, true, false, _&&_, cond}
 use Prim.Native.Nat.{ℕ}
-use native.Mathlib.Omega.{arith}
 use lib.Dec.{T, leb, eqb}
 use lib.IntN.{ℤ, pos, negsuc}
 use lib.Ieee.{Float, lt}
+use lib.Ieee.Bits.{is-true}
 use lib.Ieee.Fits.{and-i, and-r}
+use Rattle.floats.specs.Laws.Kinds.{passed}
 use Rattle.units.specs.Figures.{curveLevel}
-use Rattle.units.specs.Replies.{done, badFigure, badSetting, refusal}
+use Rattle.units.specs.Replies.{done, refusal}
+use Rattle.units.specs.Laws.Replies.{none-refused}
 use Rattle.interpolated_gain_curve.specs.Gain.{regionOf, gainOf, saturation, firstKnot, kneeEnd, largestLevel}
 use Rattle.interpolated_gain_curve.specs.Curve.{fresh, passes, notNegative, longer, lasting, inRegion, looked}
 use Rattle.interpolated_gain_curve.specs.declared.Curve.{Curve}
@@ -67,23 +69,16 @@ pub record Both (a b : Bool) : Type 0 where
 
 -- A look-up is accepted only where the state passes and the level lies from 0 to 33554432.
 pub accepted : (c : Curve) (level : Float) → looked c level .reply ≡ done → Both (passes c) (curveLevel level)
-unfolding looked refusal
-accepted c level e = go (passes c) (curveLevel level) e
-  where
-    go : (a b : Bool) → _≡_ {A = ℕ} (cond a (cond b done badFigure) badSetting) done → Both a b
-    go true true e = record { state = tt; figure = tt }
-    go true false e = absurd (omega arith)
-    go false b e = absurd (omega arith)
+unfolding looked
+accepted c level e =
+    let t = none-refused true (passes c) (curveLevel level) true e in
+    record { state = passed (t .1); figure = passed (t .2) }
 
 -- And always there: the level is counted, and the gain is its own.
 pub accepts : (c : Curve) (level : Float) → T (passes c) → T (curveLevel level)
     → looked c level ≡ record { reply = done; curve = inRegion c (regionOf level); gain = gainOf level }
 unfolding looked refusal
-accepts c level s f = rw (known (passes c) s, known (curveLevel level) f)
-  where
-    known : (b : Bool) → T b → b ≡ true
-    known true t = refl
-    known false t = absurd t
+accepts c level s f = rw (is-true (passes c) s, is-true (curveLevel level) f)
 
 -- Every accepted look-up answers a state that passes.
 pub accepted-passes : (c : Curve) (level : Float) → looked c level .reply ≡ done → T (passes (looked c level .curve))
