@@ -1,17 +1,17 @@
 -- New and every accepted call give a state that passes.
 use mathlib.Core.Path.{_≡_, refl, sym, ap, ap₂, _∙_, subst}
-use mathlib.Core.Bool.{Bool, true, false, _&&_, cond}
+use mathlib.Core.Bool.{Bool, true, _&&_, cond}
 use mathlib.Core.List.{List}
 use Prim.Native.Nat.{ℕ}
-use native.Mathlib.Omega.{arith}
 use lib.Dec.{T, eqb}
 use lib.Ieee.{Float, binary32, ofBits, lt, eq, fits}
 use lib.Ieee.Bits.{ofBits-fits}
+use Rattle.lists.specs.Tests.{_and_}
 use Rattle.units.specs.Replies.{done, refusal}
+use Rattle.units.specs.Laws.Replies.{none-refused}
 use Rattle.frames.specs.Shape.{isSamples}
 use Rattle.frames.specs.Refusal.{frameRefusal}
 use Rattle.frames.specs.Samples.{largestLevel}
-use Rattle.frames.specs.Facts.{and-first, and-second}
 use Rattle.fixed_digital_level_estimator.specs.Range.{Held, Ready as EstimatorReady}
 use Rattle.fixed_digital_level_estimator.specs.declared.Estimator.{Estimator}
 use Rattle.fixed_digital_level_estimator.specs.Estimator as E
@@ -20,6 +20,7 @@ use Rattle.interpolated_gain_curve.specs.Curve as C
 use Rattle.limiter.specs.declared.Limiter.{Limiter}
 use Rattle.limiter.specs.Limiter.{carriedFactor, passes, levelsOf, after, processed, made, starting, changed, cleared, hearing}
 use Rattle.limiter.specs.Scale.{FullScale, Ready}
+use Rattle.limiter.specs.Laws.Taking.{parts-pass}
 use Rattle.limiter.specs.Laws.Taken.{full-scale, after-ready}
 
 -- An accepted frame: every sample lies between -32768 and 32767, and the state passes again. Stated of what `process` promises.
@@ -33,12 +34,6 @@ module _ (l : Limiter) (frame : List Float) (channels samples : ℕ) (held : Hel
   processed-ready h = rw h (after-ready l frame channels samples ready held h)
 
 -- ---- the other calls
-both-pass : (shape state : Bool) → refusal shape state true true ≡ done → (shape ≡ true) × (state ≡ true)
-unfolding refusal
-both-pass true true h = (refl, refl)
-both-pass true false h = absurd (omega arith)
-both-pass false state h = absurd (omega arith)
-
 unrefused : refusal true true true true ≡ done
 unfolding refusal
 unrefused = refl
@@ -46,7 +41,7 @@ unrefused = refl
 -- a state whose estimator, curve and carried factor pass
 whole-state : (l : Limiter) → EstimatorReady (l .estimator) → C.passes (l .curve) ≡ true → T (fits binary32 (l .carried)) → carriedFactor (l .carried) ≡ true → Ready l
 unfolding passes
-whole-state l e c f k = record { level = e .held; carried = f; state = ap₂ _&&_ (ap₂ _&&_ (e .state) c) k }
+whole-state l e c f k = record { level = e .held; carried = f; state = e .state and c and k }
 
 starting-estimator : (samples : ℕ) → isSamples samples ≡ true → EstimatorReady (E.sizedTo E.none samples)
 unfolding E.made
@@ -55,22 +50,8 @@ starting-estimator samples t = subst EstimatorReady (ap (λ (b : Bool). cond b (
 pub made-passes : (samples : ℕ) → made samples .reply ≡ done → Ready (made samples .limiter)
 unfolding made starting E.made E.sizedTo E.none C.fresh C.passes ofBits lt
 made-passes samples h =
-    let t = both-pass (isSamples samples) true h .0 in
+    let t = none-refused (isSamples samples) true true true h .0 in
     rw t (whole-state (starting samples) (starting-estimator samples t) refl (ofBits-fits binary32 0x3f80_0000) refl)
-
--- the parts of a state that passes
-record Parts (l : Limiter) : Type 0 where
-  pub estimator : E.passes (l .estimator) ≡ true
-  pub curve : C.passes (l .curve) ≡ true
-  pub carried : carriedFactor (l .carried) ≡ true
-
-parts : (l : Limiter) → passes l ≡ true → Parts l
-unfolding passes
-parts l h =
-    let e = E.passes (l .estimator) in
-    let c = C.passes (l .curve) in
-    let k = carriedFactor (l .carried) in
-    record { estimator = and-first e c (and-first (e && c) k h); curve = and-second e c (and-first (e && c) k h); carried = and-second (e && c) k h }
 
 sized-estimator : (e : Estimator) (samples : ℕ) → T (fits binary32 (e .level)) → isSamples samples ≡ true → E.passes e ≡ true → EstimatorReady (E.sizedTo e samples)
 unfolding E.changed
@@ -87,13 +68,13 @@ silent-estimator e p =
 pub changed-passes : (l : Limiter) (samples : ℕ) → T (fits binary32 (l .estimator .level)) → T (fits binary32 (l .carried)) → changed l samples .reply ≡ done → Ready (changed l samples .limiter)
 unfolding changed hearing
 changed-passes l samples v f h =
-    let t = both-pass (isSamples samples) (passes l) h in
-    let p = parts l (t .1) in
+    let t = none-refused (isSamples samples) (passes l) true true h in
+    let p = parts-pass l (t .1) in
     rw (t .0, t .1) (whole-state (hearing l (E.sizedTo (l .estimator) samples)) (sized-estimator (l .estimator) samples v (t .0) (p .estimator)) (p .curve) f (p .carried))
 
 pub cleared-passes : (l : Limiter) → T (fits binary32 (l .estimator .level)) → T (fits binary32 (l .carried)) → cleared l .reply ≡ done → Ready (cleared l .limiter)
 unfolding cleared hearing
 cleared-passes l v f h =
-    let t = both-pass true (passes l) h .1 in
-    let p = parts l t in
+    let t = none-refused true (passes l) true true h .1 in
+    let p = parts-pass l t in
     rw t (whole-state (hearing l (record { level = ofBits binary32 0x0000_0000; samples = l .estimator .samples; part = l .estimator .part })) (silent-estimator (l .estimator) (p .estimator)) (p .curve) f (p .carried))

@@ -1,7 +1,7 @@
 -- Of a frame that is taken: its factors and its samples are numbers, every sample comes out between -32768 and 32767, and the state passes again, its carried factor above 0 and below 2.
-use mathlib.Core.Path.{_≡_, refl, sym, ap, ap₂, _∙_, subst}
+use mathlib.Core.Path.{_≡_, refl, sym, ap, _∙_, subst}
 use mathlib.Core.List.{List, [], _∷_}
-use mathlib.Core.Bool.{Bool, true, false, _&&_, _||_, cond}
+use mathlib.Core.Bool.{Bool, true, false, _||_, cond}
 use Prim.Native.Nat.{ℕ, zero, suc, _+_, _*_, _/_, _≤_, _<_}
 use native.Mathlib.Nat.{le-of-lt, le-of-eq, le-trans}
 use native.Mathlib.Omega.{arith}
@@ -15,7 +15,6 @@ use Rattle.rounding.specs.Laws.Exact.{constant-number}
 use Rattle.rounding.specs.Laws.Order.{between, le-box, lt→units}
 use Rattle.units.specs.Replies.{done}
 use Rattle.units.specs.Figures.{curveLevel}
-use Rattle.frames.specs.Facts.{and-first, and-second, Taken, taken, not-refused, shape-facts}
 use Rattle.frames.specs.Refusal.{frameRefusal}
 use Rattle.frames.specs.Samples.{largestLevel}
 use Rattle.floats.specs.Kinds.{magnitude}
@@ -27,6 +26,7 @@ use Rattle.interpolated_gain_curve.specs.Laws.Passes.{accepts, still-passes}
 use Rattle.interpolated_gain_curve.specs.Laws.Range.{Gain, gain-in-range}
 use Rattle.fixed_digital_level_estimator.specs.Estimator as E
 use Rattle.lists.specs.Each.{Each, each-at, each-so}
+use Rattle.lists.specs.Tests.{each-passed, _and_}
 use Rattle.fixed_digital_level_estimator.specs.Range.{Level, Sound, Held, Ready as EstimatorReady}
 use Rattle.fixed_digital_level_estimator.specs.declared.Levels.{Levels}
 use Rattle.fixed_digital_level_estimator.specs.Laws.Range.{samples-level, level-passes}
@@ -38,7 +38,7 @@ use Rattle.limiter.specs.Factors.{factors, limited}
 use Rattle.frames.specs.Parts.{eachPart}
 use Rattle.limiter.specs.Scale.{FullScale, Finite, Moderate, Ready}
 use Rattle.limiter.specs.Laws.Numbers.{factor-numbers}
-use Rattle.limiter.specs.Laws.Taking.{Fine, fine, split}
+use Rattle.limiter.specs.Laws.Taking.{Parts, parts-pass, Fine, fine}
 use Rattle.limiter.specs.Laws.FullScale.{factors-long, frame-scale}
 
 -- ---- the gains
@@ -96,9 +96,8 @@ lt→le x y t = go (lt x y) (lib.Ieee.eq x y) t
 
 carried-moderate : (x : Float) → T (fits binary32 x) → carriedFactor x ≡ true → Moderate x
 carried-moderate x f h =
-    let a = passed (and-first (lt nought x) (lt x two) h) in
-    let b = passed (and-second (lt nought x) (lt x two) h) in
-    moderate x (between nought two x nought-number two-number f (lt→le nought x a) (lt→le x two b)) a b
+    let p = each-passed (lt nought x ∷ lt x two ∷ []) (passed h) in
+    moderate x (between nought two x nought-number two-number f (lt→le nought x (p 0)) (lt→le x two (p 1))) (p 0) (p 1)
 
 -- a sample whose magnitude is a number is one
 sample-finite : (x : Float) → Sound x → Finite x
@@ -117,11 +116,11 @@ module _ (l : Limiter) (frame : List Float) (channels samples : ℕ) (ready : Re
   unfolding levelsOf
   levels = envelope-levels (l .estimator) frame channels samples (ready .level) held (facts .estimator)
 
-  two-parts : C.passes (l .curve) && carriedFactor (l .carried) ≡ true
-  two-parts = and-second (E.passes (l .estimator)) (C.passes (l .curve) && carriedFactor (l .carried)) (sym (split l frame channels samples) ∙ ready .state)
+  parts : Parts l
+  parts = parts-pass l (ready .state)
 
   gains : Each Gain (gainsOf (l .curve) (levelsOf l frame channels))
-  gains = gains-in-range (l .curve) (levelsOf l frame channels) (passed (and-first (C.passes (l .curve)) (carriedFactor (l .carried)) two-parts)) levels
+  gains = gains-in-range (l .curve) (levelsOf l frame channels) (passed (parts .curve)) levels
 
   twenty : length (gainsOf (l .curve) (levelsOf l frame channels)) ≡ 20
   unfolding levelsOf
@@ -132,7 +131,7 @@ module _ (l : Limiter) (frame : List Float) (channels samples : ℕ) (ready : Re
   factors-finite =
       let f = facts in
       let gs = gainsOf (l .curve) (levelsOf l frame channels) in
-      let carried = carried-moderate (l .carried) (ready .carried) (and-second (C.passes (l .curve)) (carriedFactor (l .carried)) two-parts) in
+      let carried = carried-moderate (l .carried) (ready .carried) (parts .carried) in
       each-so Number Finite (λ (x : Float) (n : Number x). n .real) _
       (factor-numbers (l .estimator .part) (le-trans (lit≤ tt) (f .some)) (f .small) (l .carried) gs carried (gains-moderate gs gains))
 
@@ -163,12 +162,12 @@ module _ (l : Limiter) (frame : List Float) (channels samples : ℕ) (ready : Re
       let f = facts in
       let e : E.computed (l .estimator) frame channels samples .reply ≡ done = ap (λ (z : Levels). z .reply) (f .found) in
       let r = subst EstimatorReady (ap (λ (z : Levels). z .estimator) (f .found)) (computed-ready (l .estimator) frame channels samples (ready .level) held e) in
-      let c = curve-passes (l .curve) (levelsOf l frame channels) (passed (and-first (C.passes (l .curve)) (carriedFactor (l .carried)) two-parts)) in
+      let c = curve-passes (l .curve) (levelsOf l frame channels) (passed (parts .curve)) in
       let g = carried-stays in
       record {
         level = r .held;
         carried = g .number .held;
         state =
-            ap₂ _&&_ (ap₂ _&&_ (r .state) (is-true (C.passes (curveAfter (l .curve) (levelsOf l frame channels))) c))
-            (ap₂ _&&_ (is-true (lt nought (getD (gainsOf (l .curve) (levelsOf l frame channels)) 19 nan)) (g .above)) (is-true (lt (getD (gainsOf (l .curve) (levelsOf l frame channels)) 19 nan) two) (g .below)));
+            r .state and is-true (C.passes (curveAfter (l .curve) (levelsOf l frame channels))) c
+            and (is-true (lt nought (getD (gainsOf (l .curve) (levelsOf l frame channels)) 19 nan)) (g .above) and is-true (lt (getD (gainsOf (l .curve) (levelsOf l frame channels)) 19 nan) two) (g .below));
       }

@@ -1,19 +1,20 @@
 -- Which frames the limiter takes: its reply from the estimator's, and what a frame that is taken has. Assumes nothing.
 use mathlib.Core.Path.{_≡_, refl, sym, ap, ap₂, _∙_, subst}
 use mathlib.Core.Bool.{Bool, true, false, _&&_, _||_, cond, and-assoc}
-use mathlib.Core.List.{List}
+use mathlib.Core.List.{List, [], _∷_}
 use Prim.Native.Nat.{ℕ, _*_, _/_, _%_, _≤_}
 use native.Mathlib.Omega.{arith}
 use lib.Dec.{eqb}
 use lib.ListN.{length, getD}
 use lib.Ieee.{Float, nan}
 use borrow.Author.Tests.{eqb-true}
+use Rattle.lists.specs.Tests.{each-of}
 use Rattle.units.specs.Replies.{done, refusal}
 use Rattle.units.specs.Figures.{curveLevel}
 use Rattle.frames.specs.Shape.{isShape, isSamples}
 use Rattle.frames.specs.Samples.{allWithin, largestLevel}
 use Rattle.frames.specs.Refusal.{frameRefusal}
-use Rattle.frames.specs.Facts.{and-first, and-second, Taken, taken, not-refused, shape-facts}
+use Rattle.frames.specs.Facts.{taken, not-refused, shape-facts}
 use Rattle.fixed_digital_level_estimator.specs.declared.Levels.{Levels}
 use Rattle.fixed_digital_level_estimator.specs.Estimator as E
 use Rattle.interpolated_gain_curve.specs.Curve as C
@@ -36,9 +37,22 @@ merged false true true w = refl
 merged false true false w = refl
 merged false false r w = refl
 
+-- what a state that passes has passed
+pub record Parts (l : Limiter) : Type 0 where
+  pub estimator : E.passes (l .estimator) ≡ true
+  pub curve : C.passes (l .curve) ≡ true
+  pub carried : carriedFactor (l .carried) ≡ true
+
+-- A state that passes has passed each of the three tests.
+pub parts-pass : (l : Limiter) → passes l ≡ true → Parts l
+unfolding passes
+parts-pass l h =
+    let p = each-of (_ ∷ _ ∷ _ ∷ []) h in
+    record { estimator = p 0; curve = p 1; carried = p 2 }
+
 module _ (l : Limiter) (frame : List Float) (channels samples : ℕ) where
   -- the state's test, with the estimator's first
-  pub split : passes l ≡ E.passes (l .estimator) && (C.passes (l .curve) && carriedFactor (l .carried))
+  split : passes l ≡ E.passes (l .estimator) && (C.passes (l .curve) && carriedFactor (l .carried))
   unfolding passes
   split = and-assoc (E.passes (l .estimator)) (C.passes (l .curve)) (carriedFactor (l .carried))
 
@@ -72,10 +86,10 @@ module _ (l : Limiter) (frame : List Float) (channels samples : ℕ) where
       let t = taken frame channels samples (eqb samples (l .estimator .samples)) (passes l) true largestLevel h in
       let s = shape-facts channels samples (length frame) (t .shape) in
       let est = E.passes (l .estimator) in
-      let ok : est ≡ true = and-first est (C.passes (l .curve) && carriedFactor (l .carried)) (sym split ∙ t .settings) in
+      let ok : est ≡ true = parts-pass l (t .settings) .estimator in
       let equal : samples ≡ l .estimator .samples = eqb-true samples (l .estimator .samples) (t .same) in
       let part : l .estimator .part ≡ l .estimator .samples / 20 =
-      eqb-true (l .estimator .part) (l .estimator .samples / 20) (and-second (curveLevel (l .estimator .level) && isSamples (l .estimator .samples)) (eqb (l .estimator .part) (l .estimator .samples / 20)) ok)
+      eqb-true (l .estimator .part) (l .estimator .samples / 20) (each-of (curveLevel (l .estimator .level) ∷ isSamples (l .estimator .samples) ∷ _ ∷ []) ok 2)
       in
       let again : frameRefusal frame channels samples (eqb samples (l .estimator .samples)) est true largestLevel ≡ done =
       not-refused frame channels samples (eqb samples (l .estimator .samples)) est true largestLevel (record { shape = t .shape; same = t .same; settings = ok; figures = refl; sound = t .sound })
