@@ -3,15 +3,14 @@
 -- Assumes nothing.
 use mathlib.Core.Path.{_≡_, refl, sym, ap, subst, _∙_}
 use mathlib.Core.Logic.{inl, inr}
-use mathlib.Core.Bool.{Bool, true, false, _&&_, false≢true}
+use mathlib.Core.Bool.{Bool, true, false, false≢true}
 use mathlib.Core.List.{List, [], _∷_}
 use Prim.Native.Nat.{ℕ, _<_}
 use lib.ListN.{length}
 use lib.Dec.{eqb}
 use Rattle.lists.specs.Each.{Each}
+use Rattle.lists.specs.Tests.{each-of, _and_}
 use Rattle.frames.specs.Shape.{isShape}
-use Rattle.frames.specs.Samples.{largestInput, allWithin}
-use Rattle.frames.specs.Facts.{and-first, and-second}
 use Rattle.units.specs.Figures.{accepted}
 use Rattle.chain.specs.Calls.{Called, Stepped}
 use Rattle.chain.specs.declared.Chain.{Chain}
@@ -68,11 +67,8 @@ module _ (n : ℕ) (steps : (c : Chain) (e : Event) → ReadyAt n c → Accepted
   silenced-taken : (e d : Event) → takes n e ≡ true → Silenced e d → takes n d ≡ true
   unfolding takes
   silenced-taken (frame f s) (frame g u) h z =
-      let shape = isShape (s .channels) (s .samples) (length (s .buffer)) in
-      let set = eqb (s .samples) n in
-      let three = and-first (shape && set && accepted f) (allWithin largestInput (s .buffer)) h in
-      let two = and-first (shape && set) (accepted f) three in
-      rw (z .sound, two, z .taken, and-second (shape && set && accepted f) (allWithin largestInput (s .buffer)) h) refl
+      let p = each-of (isShape (s .channels) (s .samples) (length (s .buffer)) ∷ eqb (s .samples) n ∷ accepted f ∷ _ ∷ []) h in
+      rw (z .sound) (p 0 and p 1 and z .taken and p 3)
 
   other-accepted : (t k : ℕ) (e d : Event) (es : List Event) → Differs t k e es d → Accepted n e → HeldEvent d → Accepted n d
   other-accepted t k e d es (inl p) a h = subst (Accepted n) p a

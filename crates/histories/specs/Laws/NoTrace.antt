@@ -3,13 +3,12 @@
 -- Assumes nothing.
 use mathlib.Core.Path.{_≡_, refl, sym, ap, subst, _∙_}
 use mathlib.Core.Logic.{_⊎_, inl, inr}
-use mathlib.Core.Bool.{Bool, true, false, _&&_, _||_}
-use mathlib.Core.List.{List, _∷_}
+use mathlib.Core.Bool.{Bool, true, false, _||_}
+use mathlib.Core.List.{List, [], _∷_}
 use Prim.Native.Nat.{ℕ, suc, _+_, _<_}
 use native.Mathlib.Omega.{arith}
-use lib.Dec.{ltb}
 use borrow.Author.Tests.{ltb-true}
-use Rattle.frames.specs.Facts.{and-first, and-second}
+use Rattle.lists.specs.Tests.{each-of}
 use Rattle.runs.specs.Runs.{speech}
 use Rattle.chain.specs.Calls.{Stepped, stepped}
 use Rattle.histories.specs.Histories.{Sound, Event, frame, figuresOf, soundOf, isSpeech, stepOf}
@@ -38,12 +37,8 @@ record Short (t k : ℕ) (e : Event) (es : List Event) : Type 0 where
 short : (t k : ℕ) (e : Event) (es : List Event) → inShort t k e es ≡ true → Short t k e es
 unfolding inShort
 short t k e es h =
-    let two = and-first (isSpeech e && ends es) (ltb (k + 1 + ahead es) t) h in
-    record {
-      spoken = and-first (isSpeech e) (ends es) two;
-      closed = and-second (isSpeech e) (ends es) two;
-      few = ltb-true (k + 1 + ahead es) t (and-second (isSpeech e && ends es) (ltb (k + 1 + ahead es) t) h);
-    }
+    let p = each-of (_ ∷ _ ∷ _ ∷ []) h in
+    record { spoken = p 0; closed = p 1; few = ltb-true (k + 1 + ahead es) t (p 2) }
 
 same-itself : (x : Stepped) → Same x x
 same-itself x = record { level = refl; confident = refl; headroom = refl; gain = refl; frame = refl }

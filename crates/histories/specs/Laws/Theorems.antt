@@ -6,17 +6,17 @@ use mathlib.Core.Bool.{Bool, true, false, _&&_, cond}
 use mathlib.Core.List.{List, [], _∷_}
 use Prim.Native.Nat.{ℕ, _<_}
 use native.Mathlib.Omega.{arith}
-use lib.Dec.{leb}
+use lib.Dec.{eqb}
 use lib.ListN.{length}
 use borrow.Author.Tests.{leb-true}
 use Rattle.lists.specs.Each.{Each}
+use Rattle.lists.specs.Tests.{each-of}
 use Rattle.floats.specs.Laws.Kinds.{passed as holds}
-use Rattle.units.specs.Replies.{done, refusal}
+use Rattle.units.specs.Replies.{done}
+use Rattle.units.specs.Laws.Replies.{none-refused}
 use Rattle.units.specs.Settings as Settings
 use Rattle.units.specs.declared.settings.Settings.{Settings as Set}
 use Rattle.frames.specs.Shape.{isShape, isSamples}
-use Rattle.frames.specs.Samples.{largestInput, allWithin}
-use Rattle.frames.specs.Facts.{and-first, and-second}
 use Rattle.speech_level_estimator.specs.Average as Level
 use Rattle.speech_level_estimator.specs.Estimator.{startingLevel}
 use Rattle.speech_level_estimator.specs.Laws.Level.{starting-level-in, wider}
@@ -38,20 +38,11 @@ use Rattle.histories.specs.Laws.Agree.{shown, published-is, next-ready, 
 use Rattle.histories.specs.Laws.Weighted.{level-after}
 use Rattle.histories.specs.Laws.Start.{level-starting, at-most-minus-twenty}
 
--- the replies 1 and 4 are not 0
-new-taken : (shape setting : Bool) → refusal shape setting true true ≡ done → setting ≡ true
-unfolding refusal
-new-taken true true h = refl
-new-taken true false h = absurd (omega (arith, h))
-new-taken false setting h = absurd (omega (arith, h))
-
 -- ---- a step
 -- the figures of an event that is taken are accepted
 taken-figures : (n : ℕ) (e : Event) → takes n e ≡ true → accepted (figuresOf e) ≡ true
 unfolding takes
-taken-figures n (frame f s) h =
-    let shape = isShape (s .channels) (s .samples) (length (s .buffer)) in
-    and-second (shape && _) (accepted f) (and-first (shape && _ && accepted f) (allWithin largestInput (s .buffer)) h)
+taken-figures n (frame f s) h = each-of (isShape (s .channels) (s .samples) (length (s .buffer)) ∷ eqb (s .samples) n ∷ _ ∷ _ ∷ []) h 2
 
 -- a chain that passes and takes an event passes again
 steps : (n : ℕ) (c : Chain) (e : Event) → ReadyAt n c → Accepted n e → ReadyAt n (stepOf c e .chain)
@@ -90,8 +81,8 @@ module _ (s : Set) (t n : ℕ) (held : HeldSettings s) (new : made s t n .reply 
   settings-taken : (Settings.accepted s ≡ true) × (Settings.threshold t ≡ true)
   unfolding made
   settings-taken =
-      let both = new-taken (isSamples n) (Settings.accepted s && Settings.threshold t) new in
-      (and-first (Settings.accepted s) (Settings.threshold t) both, and-second (Settings.accepted s) (Settings.threshold t) both)
+      let p = each-of (_ ∷ _ ∷ []) (none-refused (isSamples n) (Settings.accepted s && Settings.threshold t) true true new .1) in
+      (p 0, p 1)
 
   start-level : Level.level (Level.starting (startingLevel s)) ≡ startingLevel s
   start-level =
@@ -104,7 +95,7 @@ module _ (s : Set) (t n : ℕ) (held : HeldSettings s) (new : made s t n .reply 
   pub published-average : (es : List Event) → Each (Accepted n) es → after chain es .estimator .level ≡ averageLevel s t es
   published-average es taken =
       ap (λ (c : Chain). after c es .estimator .level) (made-fresh s t n held new)
-      ∙ level-after n (steps n) s t n es (leb-true 1 t (and-first (leb 1 t) (leb t Settings.largestThreshold) (settings-taken .1))) start-level fresh-ready taken
+      ∙ level-after n (steps n) s t n es (leb-true 1 t (each-of (_ ∷ _ ∷ []) (settings-taken .1) 0)) start-level fresh-ready taken
 
 -- "Every sample that comes out of any accepted chain step lies between -32768 and 32767":
 pub step-full-scale : (n : ℕ) (c : Chain) (e : Event) → ReadyAt n c → Accepted n e → FullScale (publishedBy c e .sound)
