@@ -2,7 +2,7 @@
 -- Assumes nothing.
 use mathlib.Core.Path.{_≡_, refl, sym, ap, ap₂, _∙_}
 use mathlib.Core.Bool.{true, _&&_}
-use mathlib.Core.List.{List, _∷_, _++_}
+use mathlib.Core.List.{List, [], _∷_, _++_}
 use Prim.Native.Nat.{ℕ, zero, suc, _+_, _*_, _/_, _%_, _^_, _≤_, _<_}
 use native.Mathlib.Nat.{le-trans, add-zero, not-suc-le-zero, le-of-suc-le-suc, mod-lt, mod-eq-of-lt, div-eq-of-lt, mul-add-div-right, mul-add-mod-self-right, div-add-mod', div-lt-iff-lt-mul, mul-le-mul-right, mul-comm, suc-mul, zero-add}
 use native.Mathlib.Omega.{arith}
@@ -11,11 +11,12 @@ use lib.Dec.{leb, lit≤}
 use lib.ListN.{length, getD, take, drop}
 use lib.Seq.{take-add, take-all, drop-drop}
 use Rattle.lists.specs.Stores.{next}
+use Rattle.lists.specs.Tests.{each-of}
 use lib.Ieee.{Float, binary32, ofBits}
 use Rattle.units.specs.Replies.{done, refusal}
 use Rattle.units.specs.Output.{put}
 use Rattle.frames.specs.Shape.{isSamples, isShape}
-use Rattle.frames.specs.Facts.{and-first, and-second, sizes-facts, shape-facts}
+use Rattle.frames.specs.Facts.{sizes-facts, shape-facts}
 use Rattle.wav_format.specs.Bytes.{littleAt, little}
 use Rattle.wav_format.specs.Head.{formatName, samplesName, isWave, chunkOf, plain, takeable, formatRefusal, formatOf, following, headBytes}
 use Rattle.wav_format.specs.Samples.{soundOf, heardFrom, numberOf, allFullScale, bytesFrom, frameWritten}
@@ -48,12 +49,10 @@ module _ (channels samples size : ℕ) where
 -- The format of a frame's sizes is not refused.
 format-taken : (bytes : List ℕ) (channels samples : ℕ) → length bytes ≡ 16 → plain bytes ≡ true → littleAt bytes 14 2 ≡ 16
     → littleAt bytes 2 2 ≡ channels → littleAt bytes 12 2 ≡ 2 * channels → littleAt bytes 4 4 ≡ samples * 100
-    → leb 1 channels && leb channels 8 && isSamples samples ≡ true
+    → leb 1 channels && leb channels 8 ≡ true → isSamples samples ≡ true
     → formatOf bytes ≡ record { reply = done; channels = channels; samples = samples }
 unfolding formatOf formatRefusal takeable
-format-taken bytes channels samples l p b c g r h =
-    let few = and-first (leb 1 channels && leb channels 8) (isSamples samples) h in
-    let sizes = and-second (leb 1 channels && leb channels 8) (isSamples samples) h in
+format-taken bytes channels samples l p b c g r few sizes =
     let whole : samples * 100 % 100 ≡ 0 = omega arith in
     let hundredth : samples * 100 / 100 ≡ samples = omega arith in
     rw (l, p, b, c, g, r, eq-eqb (2 * channels) (2 * channels) refl, whole, hundredth, few, sizes)
@@ -64,8 +63,9 @@ pub format-back : (channels samples size : ℕ) → leb 1 channels && leb channe
 unfolding plain littleAt headBytes little following
 format-back channels samples size h =
     let s = sizes-facts channels samples h in
+    let p = each-of (_ ∷ _ ∷ []) h in
     format-taken (take 16 (drop 20 (headBytes channels samples size))) channels samples refl refl refl (two-back channels (omega (arith, s .eight)))
-    (two-back (2 * channels) (omega (arith, s .eight))) (four-back (samples * 100) (omega (arith, s .each .most))) h
+    (two-back (2 * channels) (omega (arith, s .eight))) (four-back (samples * 100) (omega (arith, s .each .most))) (p 0) (p 1)
 
 -- ---- a frame
 -- The samples that were read, one by one.

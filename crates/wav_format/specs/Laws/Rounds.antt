@@ -2,6 +2,7 @@
 -- Assumes nothing.
 use mathlib.Core.Path.{_≡_, refl, sym, ap, ap₂, _∙_, subst}
 use mathlib.Core.Bool.{Bool, true, false, cond}
+use mathlib.Core.List.{[], _∷_}
 use mathlib.Core.Logic.{_⊎_, inl, inr}
 use Prim.Native.Nat.{ℕ, zero, suc, _+_, _-_, _*_, _/_, _%_, _^_, _≤_, _<_}
 use native.Mathlib.Nat.{le-of-suc-le-suc, lt-of-le-of-lt, sub-zero, zero-sub, mul-one, div-lt-iff-lt-mul, mul-le-mul-right, mul-div-mul-right, zero-mul}
@@ -10,6 +11,7 @@ use borrow.Author.Tests.{ltb-true, ltb-false, le-leb, lt-ltb, le-ltb}
 use lib.IntN.{ℤ, pos}
 use lib.Dec.{T, lit<, lit≤, ltb}
 use lib.Ieee.{Float, nan, inf, fin, binary32, fits, le, lt, add, neg, ofInt, ofBits, toUnsigned}
+use Rattle.lists.specs.Tests.{each-passed}
 use Rattle.rounding.specs.Units.{U, limit, size, P, N, Number, Value, rnd, Rounding}
 use Rattle.rounding.specs.Laws.Rnd.{rnd-exact, rnd-zero}
 use Rattle.rounding.specs.Laws.Whole.{U-pos, limit-pos, sides}
@@ -19,7 +21,6 @@ use Rattle.rounding.specs.Laws.Between.{in-real}
 use Rattle.rounding.specs.Laws.Exact.{constant-number, whole-number, truncated}
 use Rattle.floats.specs.Kinds.{magnitude}
 use Rattle.floats.specs.Laws.Kinds.{passed, nought, nought-value}
-use Rattle.frames.specs.Facts.{and-first, and-second}
 use Rattle.wav_format.specs.Samples.{soundOf, fullScale, rounded, numberOf}
 
 -- ---- the constants, in units
@@ -89,16 +90,15 @@ unfolding fullScale
 full x t f =
     let low = ofBits binary32 0xc700_0000 in
     let high = ofBits binary32 0x46ff_fe00 in
-    let a = passed (and-first (le low x) (le x high) f) in
-    let b = passed (and-second (le low x) (le x high) f) in
+    let p = each-passed (le low x ∷ le x high ∷ []) (passed f) in
     let v = bottom-value in
     let w = top-value in
-    let n = between low high x (v .number) (w .number) t a b in
+    let n = between low high x (v .number) (w .number) t (p 0) (p 1) in
     let s = sides x n in
     record {
       number = n;
       most-units = few (P x) (N x) (P low) (N low) (P high) (N high) (size x) U (v .plus) (v .minus) (w .plus) (w .minus) (s .one) (s .both)
-          (le→units low x (v .number) n a) (le→units x high n (w .number) b);
+          (le→units low x (v .number) n (p 0)) (le→units x high n (w .number) (p 1));
     }
   where
     few : (p n lp ln hp hn s u : ℕ) → lp ≡ 0 → ln ≡ 32768 * u → hp ≡ 32767 * u → hn ≡ 0 → (p ≡ 0) ⊎ (n ≡ 0) → p + n ≡ s

@@ -1,7 +1,8 @@
 -- `wav_format::samples::read_frame` meets its contract: what is not refused is heard. Assumes nothing.
 use mathlib.Core.Path.{sym, ap, _∙_}
+use mathlib.Core.List.{[], _∷_}
 use borrow.Author.Needs.{needs}
-use Rattle.frames.specs.Facts.{and-first}
+use Rattle.lists.specs.Tests.{each-of}
 use Rattle.wav_format.specs.Samples.{FrameRead}
 use Rattle.wav_format.specs.Laws.Samples.{frame-heard, frame-left}
 use Rattle.wav_format.proofs.samples.read_frame.Statement.{statement}
@@ -14,7 +15,7 @@ is-shape-requires : tie.Need-is-shape-requires
 is-shape-requires c κs = tt
 
 hear-requires : tie.Need-hear-requires
-hear-requires c κs = sym (c .before .before .is-shape .ensures) ∙ and-first _ _ (c .before .if1 .taken)
+hear-requires c κs = sym (c .before .before .is-shape .ensures) ∙ each-of (_ ∷ _ ∷ []) (c .before .if1 .taken) 0
 
 same-length : tie.Need-same-length
 same-length c = search needs
