@@ -1,24 +1,25 @@
 -- Writing is never refused after the chain: what a step hands out is of full scale, and fits where it was read. Laws.
 -- Assumes nothing.
-use mathlib.Core.Path.{_≡_, refl, sym, ap, ap₂, subst, _∙_}
-use mathlib.Core.Bool.{Bool, true, false, _&&_, cond}
+use mathlib.Core.Path.{_≡_, refl, sym, ap, subst, _∙_}
+use mathlib.Core.Bool.{true, _&&_}
 use mathlib.Core.List.{List, [], _∷_, _++_, append-nil}
 use Prim.Native.Nat.{ℕ, zero, suc, _+_, _*_, _-_, _/_, _%_}
 use native.Mathlib.Nat.{le-of-eq}
-use native.Mathlib.Omega.{arith}
-use lib.Dec.{T, eqb, ltb, eqb→eq}
+use borrow.Author.Tests.{eqb-true}
+use lib.Dec.{T, eqb, ltb}
 use lib.IntN.{pos}
 use lib.ListN.{length, drop, drop-of-length-le}
 use lib.Ieee.{Float, nan, binary32, fits, ofBits, ofInt, neg, le}
+use lib.Ieee.Bits.{is-true}
 use lib.Ieee.Fits.{ofInt-fits, neg-fits, and-i}
 use Rattle.rounding.specs.Laws.Exact.{constant-number}
 use Rattle.rounding.specs.Laws.Order.{units→le}
 use Rattle.lists.specs.Each.{Each}
-use Rattle.floats.specs.Laws.Kinds.{passed}
+use Rattle.lists.specs.Tests.{each-of, _and_}
 use Rattle.units.specs.Output.{Put}
-use Rattle.units.specs.Replies.{done, badShape}
+use Rattle.units.specs.Replies.{done, refusal}
+use Rattle.units.specs.Laws.Replies.{none-refused}
 use Rattle.units.specs.declared.figures.Figures.{Figures}
-use Rattle.frames.specs.Facts.{and-first, and-second}
 use Rattle.frames.specs.Shape.{isShape}
 use Rattle.gain_applier.specs.Range.{Held}
 use Rattle.limiter.specs.Scale.{Fits16, FullScale}
@@ -35,22 +36,18 @@ use Rattle.recording_frame.specs.Laws.Lengths.{called-long}
 use Rattle.recording_frame.specs.Laws.Ways.{taken}
 
 -- ---- a frame of full scale passes the writer's test
-so : (b : Bool) → T b → b ≡ true
-so true t = refl
-so false t = absurd t
-
 sample-full : (x : Float) → Fits16 x → fullScale x ≡ true
 unfolding fullScale ofBits
 sample-full x i =
     let low = ofBits binary32 0xc700_0000 in
     let high = ofBits binary32 0x46ff_fe00 in
-    ap₂ _&&_ (so (le low x) (units→le low x (constant-number 0xc700_0000 tt) (i .number) (i .above)))
-    (so (le x high) (units→le x high (i .number) (constant-number 0x46ff_fe00 tt) (i .below)))
+    is-true (le low x) (units→le low x (constant-number 0xc700_0000 tt) (i .number) (i .above))
+    and is-true (le x high) (units→le x high (i .number) (constant-number 0x46ff_fe00 tt) (i .below))
 
 all-full : (xs : List Float) → FullScale xs → allFullScale xs ≡ true
 unfolding Each allFullScale
 all-full [] h = refl
-all-full (x ∷ xs) h = ap₂ _&&_ (sample-full x (h .0)) (all-full xs (h .1))
+all-full (x ∷ xs) h = sample-full x (h .0) and all-full xs (h .1)
 
 -- ---- what is read is f32
 sound-held : (n : ℕ) → T (fits binary32 (soundOf n))
@@ -69,15 +66,11 @@ heard-held bytes channels samples j zero i = nan-held
 heard-held bytes channels samples j (suc k) zero = sound-held (littleAt bytes (2 * (j % samples * channels + j / samples)) 2)
 heard-held bytes channels samples j (suc k) (suc i) = heard-held bytes channels samples (j + 1) k i
 
-only-true : (b : Bool) → cond b done badShape ≡ done → b ≡ true
-only-true true h = refl
-only-true false h = absurd (omega (arith, h))
-
 module _ (chain : Chain) (figures : Figures) (bytes : List ℕ) (frame : List Float) (channels samples : ℕ) (held : HeldChain chain) (given : HeldFigures figures)
     (read : frameRead bytes frame channels samples .reply ≡ done) (step : called chain figures (frameRead bytes frame channels samples .frame) channels samples .told .reply ≡ done) where
   fitting : isShape channels samples (length frame) && eqb (length bytes) (2 * length frame) ≡ true
-  unfolding frameRead
-  fitting = only-true (isShape channels samples (length frame) && eqb (length bytes) (2 * length frame)) read
+  unfolding frameRead refusal
+  fitting = none-refused (isShape channels samples (length frame) && eqb (length bytes) (2 * length frame)) true true true read .0
 
   heard-is : frameRead bytes frame channels samples .frame ≡ heardFrom bytes channels samples 0 (length frame)
   heard-is = ap (λ (r : FrameRead). r .frame) (frame-heard bytes frame channels samples fitting)
@@ -96,12 +89,10 @@ module _ (chain : Chain) (figures : Figures) (bytes : List ℕ) (frame : List Fl
       (subst Held (sym heard-is) (heard-held bytes channels samples 0 (length frame))) step)
 
   shape : isShape channels samples (length after) ≡ true
-  shape = ap (isShape channels samples) long ∙ and-first (isShape channels samples (length frame)) (eqb (length bytes) (2 * length frame)) fitting
+  shape = ap (isShape channels samples) long ∙ each-of (_ ∷ _ ∷ []) fitting 0
 
   twice : length bytes ≡ 2 * length after
-  twice =
-      eqb→eq (length bytes) (2 * length frame) (passed (and-second (isShape channels samples (length frame)) (eqb (length bytes) (2 * length frame)) fitting))
-      ∙ ap (λ (n : ℕ). 2 * n) (sym long)
+  twice = eqb-true (length bytes) (2 * length frame) (each-of (isShape channels samples (length frame) ∷ _ ∷ []) fitting 1) ∙ ap (λ (n : ℕ). 2 * n) (sym long)
 
   written : frameWritten after channels samples bytes ≡ record { reply = done; out = bytesFrom after channels samples 0 (length after) ++ drop (2 * length after) bytes }
   written = frame-written after channels samples bytes shape full (le-of-eq (sym twice))
