@@ -3,7 +3,7 @@
 use mathlib.Core.Path.{_≡_, refl, sym, ap, ap₂, _∙_, subst}
 use mathlib.Core.Logic.{_⊎_, inl, inr}
 use mathlib.Core.Bool.{Bool, true, false, not, _&&_, _||_, cond}
-use mathlib.Core.List.{_∷_}
+use mathlib.Core.List.{[], _∷_}
 use Prim.Native.Nat.{ℕ, zero, suc, _+_, _-_, _*_, _/_, _%_, _^_, _≤_, _<_}
 use native.Mathlib.Nat.{zero-add, mul-assoc, mul-comm, mul-div-cancel, mul-div-mul-right, div-eq-of-lt, le-div-iff-mul-le, mul-lt-mul-of-pos-right, mul-le-mul, lt-of-lt-of-le, lt-of-le-of-lt, le-of-eq, le-trans, lt-irrefl}
 use native.Mathlib.Omega.{arith}
@@ -15,6 +15,7 @@ use lib.Ieee as Ieee
 use lib.Ieee.Digits.{back, size-le, size-reaches}
 use lib.Ieee.Fits.{kept-lt, and-i, and-l, and-r}
 use lib.Ieee.Bits.{is-true}
+use Rattle.lists.specs.Tests.{each-passed}
 use Rattle.rounding.specs.Units.{U, size, P, N, Number, Value, In}
 use Rattle.rounding.specs.Laws.Whole.{digits-of, sides}
 use Rattle.rounding.specs.Laws.Order.{between, le-box, le→units, units→le}
@@ -23,7 +24,8 @@ use Rattle.floats.specs.Kinds.{magnitude}
 use Rattle.floats.specs.Laws.Kinds.{passed}
 use Rattle.bits.specs.Floats.{patternOf}
 use Rattle.units.specs.Ranges.{closed}
-use Rattle.units.specs.Replies.{done, refusal}
+use Rattle.units.specs.Replies.{done}
+use Rattle.units.specs.Laws.Replies.{none-refused}
 use Rattle.units.specs.Figures as Figures
 use Rattle.strip_lines.specs.Lines.{minus, decimal, hundredths, figure}
 use Rattle.strip_lines.specs.Calls.{recordRefusal}
@@ -137,37 +139,26 @@ pub record Printed (level headroom gain : Float) : Type 0 where
   pub second : closed lowest headroom highest ≡ true
   pub third : closed lowest gain highest ≡ true
 
-no-refusal : (p : Bool) → refusal true true p true ≡ done → T p
-unfolding refusal
-no-refusal true e = tt
-no-refusal false e = absurd (2≢0 e)
-  where
-    2≢0 : _≡_ {A = ℕ} 2 0 → ⊥
-    2≢0 z = omega arith
-
 pub printed : (l h g : Float) → T (fits binary32 l) → T (fits binary32 h) → T (fits binary32 g) → recordRefusal l h g ≡ done → Printed l h g
 unfolding recordRefusal
 printed l h g tl th tg e =
-    let all = no-refusal (Figures.level l && Figures.headroom h && Figures.gain g) e in
-    let two = and-l (Figures.level l && Figures.headroom h) (Figures.gain g) all in
-    let a = and-l (Figures.level l) (Figures.headroom h) two in
-    let b = and-r (Figures.level l) (Figures.headroom h) two in
-    let c = and-r (Figures.level l && Figures.headroom h) (Figures.gain g) all in
+    let all = none-refused true true (Figures.level l && Figures.headroom h && Figures.gain g) true e .2 in
+    let p = each-passed (Figures.level l ∷ Figures.headroom h ∷ Figures.gain g ∷ []) (passed all) in
     let nought = ofBits binary32 0x0000_0000 in
     let zero-number = constant-number 0x0000_0000 (unfold ofBits in tt) in
     let z : T (le lowest nought) = unfold le lt eq ofBits in tt in
     record {
       first =
           within lowest (ofBits binary32 0x4248_0000) l (lowest-value .number) (constant-number 0x4248_0000 (unfold ofBits in tt)) tl
-          (and-l (le lowest l) (le l (ofBits binary32 0x4248_0000)) a) (and-r (le lowest l) (le l (ofBits binary32 0x4248_0000)) a)
+          (and-l (le lowest l) (le l (ofBits binary32 0x4248_0000)) (p 0)) (and-r (le lowest l) (le l (ofBits binary32 0x4248_0000)) (p 0))
           (unfold le lt eq ofBits in tt) (unfold le lt eq ofBits in tt);
       second =
           within nought (ofBits binary32 0x42c8_0000) h zero-number (constant-number 0x42c8_0000 (unfold ofBits in tt)) th
-          (lt→le nought h (and-l (lt nought h) (le h (ofBits binary32 0x42c8_0000)) b)) (and-r (lt nought h) (le h (ofBits binary32 0x42c8_0000)) b)
+          (lt→le nought h (and-l (lt nought h) (le h (ofBits binary32 0x42c8_0000)) (p 1))) (and-r (lt nought h) (le h (ofBits binary32 0x42c8_0000)) (p 1))
           z (unfold le lt eq ofBits in tt);
       third =
           within nought (ofBits binary32 0x424c_0000) g zero-number (constant-number 0x424c_0000 (unfold ofBits in tt)) tg
-          (and-l (le nought g) (le g (ofBits binary32 0x424c_0000)) c) (and-r (le nought g) (le g (ofBits binary32 0x424c_0000)) c)
+          (and-l (le nought g) (le g (ofBits binary32 0x424c_0000)) (p 2)) (and-r (le nought g) (le g (ofBits binary32 0x424c_0000)) (p 2))
           z (unfold le lt eq ofBits in tt);
     }
 
