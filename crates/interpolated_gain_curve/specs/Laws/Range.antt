@@ -13,6 +13,7 @@ use lib.Ieee.Fits.{and-l, and-r}
 use lib.Ieee.Scale.{finite}
 use lib.ListN.{length, getD}
 use Rattle.lists.specs.Table.{at}
+use Rattle.lists.specs.Tests.{each-passed}
 use Rattle.rounding.specs.Units.{P, N, Number}
 use Rattle.rounding.specs.Laws.Order.{le→units, units→le, lt→units, units→lt, not-lt→units, le-units, le-box, between}
 use Rattle.rounding.specs.Laws.Exact.{constant-number}
@@ -166,20 +167,17 @@ piece-gain : (level : Float) (i : ℕ) → Largest level i → Number level → 
 unfolding piece-ok place line eval onPiece
 piece-gain level i l n t =
     let x = getD knots i nan in
-    let ok = pieces-ok i (l .inside) in
-    let low = isNumber x in
-    let high = isNumber (end i) in
     let rest = bounded (place i x ∷ []) (line i) && good (box (place i x ∷ []) (line i)) in
-    let ends = and-l (low && high) rest ok in
-    let a = a-number x (and-l low high ends) in
-    let b = a-number (end i) (and-r low high ends) in
+    let p = each-passed (isNumber x ∷ isNumber (end i) ∷ rest ∷ []) (pieces-ok i (l .inside)) in
+    let a = a-number x (p 0) in
+    let b = a-number (end i) (p 1) in
     tested (place i x) (line i) level
     (record {
       low-number = a;
       high-number = b;
       inside = record { number = n; above = le-of-lt (lt→units x level a n (l .below)); below = before-end level i l n b t };
     })
-    (and-r (low && high) rest ok)
+    (p 2)
 
 -- ---- the whole curve
 -- For every accepted level the gain is a number above 0, at most 1 and below 2.
