@@ -1,7 +1,7 @@
 -- What a frame's tests show where they pass, and what a frame that is not refused has. Laws.
 -- Assumes nothing.
 use mathlib.Core.Path.{_≡_, refl, sym, ap, _∙_}
-use mathlib.Core.Bool.{Bool, true, false, _&&_, false≢true, and-assoc}
+use mathlib.Core.Bool.{Bool, true, false, _&&_, and-assoc}
 use mathlib.Core.List.{List, [], _∷_, _++_}
 use Prim.Native.Nat.{ℕ, _*_, _%_, _≤_, _<_}
 use lib.Dec.{leb}
@@ -15,16 +15,6 @@ use Rattle.units.specs.Laws.Replies.{none-refused}
 use Rattle.frames.specs.Shape.{isSamples, isShape}
 use Rattle.frames.specs.Samples.{within, allWithin}
 use Rattle.frames.specs.Refusal.{frameRefusal}
-
--- Where both pass, the first does.
-pub and-first : (a b : Bool) → a && b ≡ true → a ≡ true
-and-first true b h = refl
-and-first false b h = h
-
--- Where both pass, the second does.
-pub and-second : (a b : Bool) → a && b ≡ true → b ≡ true
-and-second true b h = h
-and-second false b h = absurd (false≢true h)
 
 -- a channel's number of samples
 pub record Samples (samples : ℕ) : Type 0 where

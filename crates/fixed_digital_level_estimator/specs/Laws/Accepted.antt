@@ -2,7 +2,7 @@
 -- Assumes nothing.
 use mathlib.Core.Path.{_≡_, _∙_}
 use mathlib.Core.Bool.{true, _&&_}
-use mathlib.Core.List.{List}
+use mathlib.Core.List.{List, [], _∷_}
 use Prim.Native.Nat.{ℕ, _*_, _/_}
 use native.Mathlib.Omega.{arith}
 use lib.Dec.{eqb}
@@ -14,7 +14,8 @@ use Rattle.units.specs.Replies.{done}
 use Rattle.frames.specs.Shape.{isSamples}
 use Rattle.frames.specs.Samples.{largestLevel, allWithin}
 use Rattle.frames.specs.Refusal.{frameRefusal}
-use Rattle.frames.specs.Facts.{and-first, and-second, samples-facts, shape-facts, taken}
+use Rattle.lists.specs.Tests.{each-of}
+use Rattle.frames.specs.Facts.{samples-facts, shape-facts, taken}
 use Rattle.fixed_digital_level_estimator.specs.Estimator.{passes}
 use Rattle.fixed_digital_level_estimator.specs.declared.Estimator.{Estimator}
 
@@ -29,13 +30,10 @@ pub record Passing (e : Estimator) : Type 0 where
 pub passing : (e : Estimator) → passes e ≡ true → Passing e
 unfolding passes
 passing e h =
-    let level = curveLevel (e .level) in
-    let samples = isSamples (e .samples) in
-    let part = eqb (e .part) (e .samples / 20) in
-    let two = and-first (level && samples) part h in
-    let known = samples-facts (e .samples) (and-second level samples two) in
-    let twentieth : e .part ≡ e .samples / 20 = eqb-true (e .part) (e .samples / 20) (and-second (level && samples) part h) in
-    record { level = and-first level samples two; samples = and-second level samples two; part = twentieth; whole = omega arith }
+    let p = each-of (curveLevel (e .level) ∷ isSamples (e .samples) ∷ eqb (e .part) (e .samples / 20) ∷ []) h in
+    let known = samples-facts (e .samples) (p 1) in
+    let twentieth : e .part ≡ e .samples / 20 = eqb-true (e .part) (e .samples / 20) (p 2) in
+    record { level = p 0; samples = p 1; part = twentieth; whole = omega arith }
 
 -- a frame that the estimator accepts
 pub record Accepted (e : Estimator) (frame : List Float) (channels samples : ℕ) : Type 0 where

@@ -25,7 +25,7 @@ use Rattle.intervals.specs.Laws.Interval.{interval}
 use Rattle.intervals.specs.Laws.Choice.{larger-is, leq-trans}
 use Rattle.units.specs.Figures.{curveLevel}
 use Rattle.frames.specs.Samples.{largestLevel, within, allWithin}
-use Rattle.frames.specs.Facts.{and-first, and-second}
+use Rattle.lists.specs.Tests.{each-of}
 use Rattle.fixed_digital_level_estimator.specs.Envelope.{silence, peakFrom, peaksIn, peaksOver, raised, decayed, smoothed}
 use Rattle.fixed_digital_level_estimator.specs.Range.{Level, Sound, Held}
 
@@ -60,10 +60,9 @@ level-zero =
 -- What passes the test of a curve level is a level, where it is an f32.
 pub level-of : (x : Float) → T (fits binary32 x) → curveLevel x ≡ true → Level x
 level-of x f h =
-    let low = le (ofBits binary32 0x0000_0000) x in
-    let high = le x (ofBits binary32 0x4c00_0000) in
-    let a = passed (and-first low high h) in
-    let b = passed (and-second low high h) in
+    let p = each-of (le (ofBits binary32 0x0000_0000) x ∷ le x (ofBits binary32 0x4c00_0000) ∷ []) h in
+    let a = passed (p 0) in
+    let b = passed (p 1) in
     le-box (ofBits binary32 0x0000_0000) (ofBits binary32 0x4c00_0000) x low-number high-number
     (between (ofBits binary32 0x0000_0000) (ofBits binary32 0x4c00_0000) x low-number high-number f a b) a b
 
@@ -111,9 +110,8 @@ pub samples-level : (xs : List Float) → Held xs → allWithin largestLevel xs 
 unfolding allWithin Each
 samples-level [] f h = tt
 samples-level (x ∷ xs) f h =
-    let first = within largestLevel x in
-    let others = allWithin largestLevel xs in
-    (sample-level x (f 0) (and-first first others h), samples-level xs (λ (i : ℕ). f (suc i)) (and-second first others h))
+    let p = each-of (within largestLevel x ∷ allWithin largestLevel xs ∷ []) h in
+    (sample-level x (f 0) (p 0), samples-level xs (λ (i : ℕ). f (suc i)) (p 1))
 
 -- ---- the peaks
 -- The larger of two levels is a level.

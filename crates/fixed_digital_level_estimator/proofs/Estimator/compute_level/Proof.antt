@@ -1,7 +1,7 @@
 -- `Estimator::compute_level` meets its contract: where the reply is 0 the peaks are raised and smoothed, and the last value is the state. The samples are looked
 -- at only where the shape and the state pass, and no reply depends on them elsewhere. Assumes nothing.
 use mathlib.Core.Bool.{Bool, true, false, _&&_, false≢true}
-use mathlib.Core.List.{List}
+use mathlib.Core.List.{List, [], _∷_}
 use mathlib.Core.Path.{_≡_, refl, sym, ap, _∙_}
 use Prim.Native.Nat.{ℕ, _*_}
 use native.Mathlib.Omega.{arith}
@@ -14,7 +14,8 @@ use Rattle.units.specs.Replies.{done, refusal}
 use Rattle.frames.specs.Refusal.{frameRefusal}
 use Rattle.frames.specs.Shape.{isShape}
 use Rattle.frames.specs.Samples.{largestLevel, allWithin}
-use Rattle.frames.specs.Facts.{and-first, and-second, shape-facts}
+use Rattle.lists.specs.Tests.{each-of}
+use Rattle.frames.specs.Facts.{shape-facts}
 use Rattle.fixed_digital_level_estimator.specs.declared.Estimator.{Estimator}
 use Rattle.fixed_digital_level_estimator.specs.declared.Levels.{Levels}
 use Rattle.fixed_digital_level_estimator.specs.Envelope.{silence, peaksOver, raised, smoothed}
@@ -46,14 +47,17 @@ module _ (e : Estimator) (frame : List Float) (channels samples : ℕ) (ok fits 
   abbrev shape : Bool
   shape = fits && eqb samples (e .samples)
 
-  -- a frame that gets so far has the shape that its peaks ask for
+  -- what a frame that gets so far has passed: the shape, the samples that were set, and the state
+  passed-three : shape && ok ≡ true → (fits ≡ true) × (samples ≡ e .samples) × (ok ≡ true)
+  passed-three t =
+      let p = each-of (fits ∷ eqb samples (e .samples) ∷ ok ∷ []) t in
+      (p 0, eqb-true samples (e .samples) (p 1), p 2)
+
+  -- it has the shape that its peaks ask for
   shaped : shape && ok ≡ true → (length frame ≡ channels * samples) × (samples ≡ 20 * e .part)
   shaped t =
-      let first = and-first shape ok t in
-      let same = eqb-true samples (e .samples) (and-second fits (eqb samples (e .samples)) first) in (
-        shape-facts channels samples (length frame) (sym f ∙ and-first fits (eqb samples (e .samples)) first) .1,
-        same ∙ passing e (sym o ∙ and-second shape ok t) .whole,
-      )
+      let p = passed-three t in
+      (shape-facts channels samples (length frame) (sym f ∙ p .0) .1, p .1 ∙ passing e (sym o ∙ p .2) .whole)
 
   -- the reply of a frame
   replied : frameRefusal frame channels samples (eqb samples (e .samples)) (passes e) true largestLevel ≡ refusal shape ok true (allWithin largestLevel frame)
@@ -76,7 +80,10 @@ module _ (e : Estimator) (frame : List Float) (channels samples : ℕ) (ok fits 
   -- one whose samples were looked at
   module _ (tame : Bool) (reply : ℕ) (t : shape && ok ≡ true) (w : tame ≡ allWithin largestLevel frame) (r : reply ≡ refusal true true true tame) where
     is : reply ≡ refusal shape ok true (allWithin largestLevel frame)
-    is = rw (and-first shape ok t, and-second shape ok t, ← w) r
+    is = shown (each-of (shape ∷ ok ∷ []) t 0) (each-of (shape ∷ ok ∷ []) t 1)
+      where
+        shown : shape ≡ true → ok ≡ true → reply ≡ refusal shape ok true (allWithin largestLevel frame)
+        shown s k = rw (s, k, ← w) r
 
     refuses-late : tame ≡ false → _≡_ {A = Levels} (record { reply = reply; estimator = e; envelope = silence }) (computed e frame channels samples)
     refuses-late b = refuses reply is (λ (d : reply ≡ done). late tame b (sym r ∙ d))
@@ -86,7 +93,7 @@ module _ (e : Estimator) (frame : List Float) (channels samples : ℕ) (ok fits 
         → _≡_ {A = Levels} (record { reply = reply; estimator = record { level = getD envelope 19 nan; samples = e .samples; part = e .part }; envelope = envelope }) (computed e frame channels samples)
     unfolding computed heardUpTo envelopeOf refusal
     accepts peaks high envelope b p h s =
-        let same = eqb-true samples (e .samples) (and-second fits (eqb samples (e .samples)) (and-first shape ok t)) in
+        let same = passed-three t .1 in
         let whole : envelope ≡ envelopeOf e channels frame = rw (s, h, p, same) in
         let all = envelope-length e channels frame in
         let zero : reply ≡ done = r ∙ ap (refusal true true true) b in
