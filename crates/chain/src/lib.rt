@@ -2,12 +2,16 @@
 // frame of sound and five figures that were metered of it.
 
 ghost use mathlib.Core.Path.{_≡_};
-ghost use mathlib.Core.Bool.{cond};
+ghost use lib.ListN.{length};
 ghost use Rattle.units.specs.Replies.{done};
+ghost use Rattle.speech_level_estimator.specs.Calls as Levels;
+ghost use Rattle.saturation_protector.specs.Calls as Headrooms;
 ghost use Rattle.limiter.specs.Scale.{FullScale};
 ghost use Rattle.chain.specs.Chain.{alike, passes};
 ghost use Rattle.chain.specs.Answer.{answerOf, said};
-ghost use Rattle.chain.specs.Calls.{made, told, called};
+ghost use Rattle.chain.specs.Calls.{informed, made, told, called};
+ghost use Rattle.chain.specs.Laws.Calls.{early};
+ghost use Rattle.chain.specs.Laws.Start.{four};
 use adaptive_digital_gain_controller::Controller;
 use adaptive_digital_gain_controller::Info;
 use limiter::Limiter;
@@ -53,11 +57,12 @@ pub struct Next {
     pub chain: Chain,
 }
 
-// The first of two settings where b, otherwise the second.
-fn pick_settings(b: bool, x: Settings, y: Settings) -> Settings
-    ensures { λ r. ⌜ r ≡ cond b x y ⌝ }
-{
-    if b { x } else { y }
+// What a frame is to the controller and to those after it: the level and the headroom that have heard it, and
+// what the controller is told.
+struct Heard {
+    estimator: Estimator,
+    protector: Protector,
+    info: Info,
 }
 
 // Whether two settings are the same, by the float's own equality.
@@ -87,6 +92,108 @@ fn answer_of(speech: bool, threshold: u32, count: u32, level: f32, headroom: f32
     }
 }
 
+// The four parts of a new chain, each made by its own call: one whose settings, threshold or samples are
+// refused is all 0.
+fn four(settings: Settings, threshold: u32, samples: usize) -> Chain
+    ensures { λ r. ⌜ r ≡ four settings threshold samples ⌝ }
+{
+    let first = Estimator::new(settings, threshold);
+    let second = Protector::new(Db(INITIAL), threshold);
+    let third = Controller::new(settings, threshold);
+    let fourth = Limiter::new(samples);
+    let estimator = first.estimator;
+    let protector = second.protector;
+    let controller = third.controller;
+    let limiter = fourth.limiter;
+    Chain {
+        estimator,
+        protector,
+        controller,
+        limiter,
+    }
+}
+
+// A frame is heard: the level of the speech first, then the headroom by that level; both go into what the
+// controller is told.
+fn hear(estimator: Estimator, protector: Protector, figures: Figures) -> Heard
+    ensures { λ r. ⌜ r .estimator ≡ Levels.stepped estimator (figures .rms .0) (figures .probability) .estimator ⌝ }
+    ensures { λ r. ⌜ r .protector ≡ Headrooms.stepped protector (figures .probability) (figures .peak .0) (r .estimator .level) .protector ⌝ }
+    ensures { λ r. ⌜ r .info ≡ informed (r .estimator) (r .protector) figures ⌝ }
+{
+    let p = figures.probability;
+    let rms = figures.rms;
+    let peak = figures.peak;
+    let noise = figures.noise;
+    let envelope = figures.envelope;
+    let first = estimator.update(rms, p);
+    let heard = first.estimator;
+    let level = Dbfs(heard.level);
+    let second = protector.analyze(p, peak, level);
+    let safe = second.protector;
+    let info = Info {
+        probability: p,
+        level,
+        reliable: heard.confident,
+        noise,
+        headroom: Db(safe.headroom),
+        envelope,
+    };
+    Heard {
+        estimator: heard,
+        protector: safe,
+        info,
+    }
+}
+
+// Takes a frame that is refused for its samples or not at all: it is heard, then the controller puts the
+// gain on it, and what comes last is the limiter.
+fn take(last: Chain, figures: Figures, frame: &mut [f32], channels: usize, samples: usize) -> Next
+    requires { ⌜ early last figures (length (now frame)) channels samples ≡ done ⌝ }
+    ensures { λ r. ⌜ told r ≡ called last figures (now (frame .entry)) channels samples .told ⌝ }
+    ensures { λ _. ⌜ now (frame .exit) ≡ called last figures (now (frame .entry)) channels samples .frame ⌝ }
+    ensures scale { λ r. ⌜ (r .reply ≡ done → FullScale (now (frame .exit))) ⌝ }
+{
+    let estimator = last.estimator;
+    let protector = last.protector;
+    let controller = last.controller;
+    let limiter = last.limiter;
+    let heard = hear(estimator, protector, figures);
+    let spoken = heard.estimator;
+    let safe = heard.protector;
+    let info = heard.info;
+    // The controller looks at every sample, and refuses a frame that has a bad one.
+    let third = controller.process(info, frame, channels, samples);
+    if third.reply == DONE {
+        let levelled = third.controller;
+        let fourth = limiter.process(frame, channels, samples);
+        let limited = fourth.limiter;
+        let speech = runs::is_speech(figures.probability);
+        let answer = answer_of(
+            speech,
+            spoken.threshold,
+            spoken.count,
+            spoken.level,
+            safe.headroom,
+        );
+        Next {
+            reply: DONE,
+            answer,
+            chain: Chain {
+                estimator: spoken,
+                protector: safe,
+                controller: levelled,
+                limiter: limited,
+            },
+        }
+    } else {
+        Next {
+            reply: third.reply,
+            answer: Answer::NonSpeech,
+            chain: last,
+        }
+    }
+}
+
 impl Chain {
     // A new chain for channels of so many samples. Samples that are no shape's are refused with 1, then
     // settings out of their ranges and a threshold that is not from 1 to 200 with 4.
@@ -97,27 +204,11 @@ impl Chain {
         let setting = settings.accepted() & units::settings::is_threshold(threshold);
         let reply = refusal(shape, setting, true, true);
         let ok = shape & setting;
-        // Where it is refused each part is refused too, and leaves a state that is all 0.
-        let set = pick_settings(ok, settings, Settings::unset());
+        // Where it is refused each part is refused too, for its threshold or its samples, and is all 0.
         let frames = floats::pick_u32(ok, threshold, 0);
         let size = floats::pick_usize(ok, samples, 0);
-        let first = Estimator::new(set, frames);
-        let second = Protector::new(Db(INITIAL), frames);
-        let third = Controller::new(set, frames);
-        let fourth = Limiter::new(size);
-        let estimator = first.estimator;
-        let protector = second.protector;
-        let controller = third.controller;
-        let limiter = fourth.limiter;
-        Made {
-            reply,
-            chain: Chain {
-                estimator,
-                protector,
-                controller,
-                limiter,
-            },
-        }
+        let chain = four(settings, frames, size);
+        Made { reply, chain }
     }
 
     // Whether a handed-in chain passes: each part does, they are alike in threshold and settings, and the
@@ -141,6 +232,17 @@ impl Chain {
             & (protector.initial == INITIAL)
     }
 
+    // What a frame is refused with before its samples are looked at, or nothing.
+    fn refused(self, figures: Figures, size: usize, channels: usize, samples: usize) -> u32
+        ensures { λ r. ⌜ r ≡ early self figures size channels samples ⌝ }
+    {
+        let set = samples == self.limiter.estimator.samples;
+        let shape = frames::is_shape(channels, samples, size) & set;
+        let state = self.passes();
+        let figure = figures.accepted();
+        refusal(shape, state, figure, true)
+    }
+
     // Takes a frame: the level of the speech, then the headroom by it, then the gain by both, which is put on
     // the frame, and last the limiter. Refused with 1, 4, 2 or 3, and then nothing changes.
     pub fn step(self, figures: Figures, frame: &mut [f32], channels: usize, samples: usize) -> Next
@@ -148,61 +250,9 @@ impl Chain {
         ensures { λ _. ⌜ now (frame .exit) ≡ called self figures (now (frame .entry)) channels samples .frame ⌝ }
         ensures scale { λ r. ⌜ (r .reply ≡ done → FullScale (now (frame .exit))) ⌝ }
     {
-        let estimator = self.estimator;
-        let protector = self.protector;
-        let controller = self.controller;
-        let limiter = self.limiter;
-        let inside = limiter.estimator;
-        let set = samples == inside.samples;
-        let shape = frames::is_shape(channels, samples, frame.len()) & set;
-        let state = self.passes();
-        let figure = figures.accepted();
-        let before = refusal(shape, state, figure, true);
+        let before = self.refused(figures, frame.len(), channels, samples);
         if before == DONE {
-            let p = figures.probability;
-            let first = estimator.update(Dbfs(figures.rms.0), p);
-            let heard = first.estimator;
-            let second = protector.analyze(p, Dbfs(figures.peak.0), Dbfs(heard.level));
-            let safe = second.protector;
-            let info = Info {
-                probability: p,
-                level: Dbfs(heard.level),
-                reliable: heard.confident,
-                noise: Dbfs(figures.noise.0),
-                headroom: Db(safe.headroom),
-                envelope: Dbfs(figures.envelope.0),
-            };
-            // The controller looks at every sample, and refuses a frame that has a bad one.
-            let third = controller.process(info, frame, channels, samples);
-            if third.reply == DONE {
-                let levelled = third.controller;
-                let fourth = limiter.process(frame, channels, samples);
-                let limited = fourth.limiter;
-                let speech = runs::is_speech(p);
-                let answer = answer_of(
-                    speech,
-                    heard.threshold,
-                    heard.count,
-                    heard.level,
-                    safe.headroom,
-                );
-                Next {
-                    reply: DONE,
-                    answer,
-                    chain: Chain {
-                        estimator: heard,
-                        protector: safe,
-                        controller: levelled,
-                        limiter: limited,
-                    },
-                }
-            } else {
-                Next {
-                    reply: third.reply,
-                    answer: Answer::NonSpeech,
-                    chain: self,
-                }
-            }
+            take(self, figures, frame, channels, samples)
         } else {
             Next {
                 reply: before,

@@ -20,11 +20,9 @@ use Rattle.gain_applier.specs.Applier as Applying
 use Rattle.gain_applier.specs.Range.{Held}
 use Rattle.speech_level_estimator.specs.Calls as Levels
 use Rattle.speech_level_estimator.specs.declared.Estimator.{Estimator}
-use Rattle.speech_level_estimator.specs.declared.Next.{Next as LevelNext}
 use Rattle.saturation_protector.specs.Calls as Headrooms
 use Rattle.saturation_protector.specs.Laws.Again as HeadroomAgain
 use Rattle.saturation_protector.specs.declared.Protector.{Protector}
-use Rattle.saturation_protector.specs.declared.Next.{Next as HeadroomNext}
 use Rattle.adaptive_digital_gain_controller.specs.Controller as Gain
 use Rattle.adaptive_digital_gain_controller.specs.Calls as Gaining
 use Rattle.adaptive_digital_gain_controller.specs.declared.Info.{Info}
@@ -33,11 +31,10 @@ use Rattle.adaptive_digital_gain_controller.specs.declared.Next.{Next as GainNe
 use Rattle.limiter.specs.Limiter as Limiting
 use Rattle.limiter.specs.Scale.{FullScale}
 use Rattle.limiter.specs.declared.Limiter.{Limiter}
-use Rattle.limiter.specs.declared.Next.{Next as LimiterNext}
 use Rattle.units.specs.Figures.{accepted}
 use Rattle.chain.specs.Chain.{passes, samplesOf}
 use Rattle.chain.specs.Answer.{nonSpeech, answerOf}
-use Rattle.chain.specs.Calls.{informed, Stepped, stepped, Called, refused, called}
+use Rattle.chain.specs.Calls.{informed, Stepped, stepped, Told, Called, refused, called}
 use Rattle.chain.specs.Held.{HeldChain, HeldFigures, Ready}
 use Rattle.chain.specs.Laws.Passing.{Passed, passed-all}
 use Rattle.chain.specs.Laws.Steps.{level-is, heard, safe, info, heard-figures, safe-figures, info-accepted, controller-is, frame-is, stepped-ready, stepped-full-scale}
@@ -56,17 +53,17 @@ shown r b next c frame =
       frame = cond b (next .frame) frame;
     }
 
--- an accepted one, by its parts
-unfoldable pub built : Float → Estimator → Protector → Controller → Limiter → List Float → Called
-built p e s g l frame =
-    record {
-      told = record { reply = done; answer = answerOf (speech p) (e .threshold) (e .count) (e .level) (s .headroom); chain = record { estimator = e; protector = s; controller = g; limiter = l } };
-      frame = frame;
-    }
+-- what a frame is refused with before its samples are looked at
+abbrev pub early : Chain → Figures → ℕ → ℕ → ℕ → ℕ
+early c f size channels samples = refusal (isShape channels samples size && eqb samples (samplesOf c)) (passes c) (accepted f) true
 
-built-same : (p : Float) {e e' : Estimator} {s s' : Protector} {g g' : Controller} {l l' : Limiter} {x x' : List Float}
-    → e ≡ e' → s ≡ s' → g ≡ g' → l ≡ l' → x ≡ x' → built p e s g l x ≡ built p e' s' g' l' x'
-built-same p a b d f h = rw (a, b, d, f, h)
+-- what an accepted call tells, by its parts
+unfoldable pub ended : Float → Estimator → Protector → Controller → Limiter → Told
+ended p e s g l = record { reply = done; answer = answerOf (speech p) (e .threshold) (e .count) (e .level) (s .headroom); chain = record { estimator = e; protector = s; controller = g; limiter = l } }
+
+ended-same : (p : Float) {e e' : Estimator} {s s' : Protector} {g g' : Controller} {l l' : Limiter} {x x' : List Float}
+    → e ≡ e' → s ≡ s' → g ≡ g' → l ≡ l' → x ≡ x' → _≡_ {A = Called} (record { told = ended p e s g l; frame = x }) (record { told = ended p e' s' g' l'; frame = x' })
+ended-same p a b d f h = rw (a, b, d, f, h)
 
 module _ (c : Chain) (f : Figures) (frame : List Float) (channels samples : ℕ) where
   called-is : called c f frame channels samples ≡ shown (refused c f frame channels samples) (eqb (refused c f frame channels samples) done) (stepped c f frame channels samples) c frame
@@ -86,12 +83,19 @@ module _ (c : Chain) (f : Figures) (frame : List Float) (channels samples : ℕ)
   called-accepted e = called-is ∙ ap (λ (m : ℕ). shown m (eqb m done) (stepped c f frame channels samples) c frame) e
 
   -- A frame whose shape, state or figures fail is refused with the first number that applies.
-  pub refused-early : {r : ℕ} → r ≡ refusal (isShape channels samples (length frame) && eqb samples (samplesOf c)) (passes c) (accepted f) true → (r ≡ done → ⊥)
+  pub refused-early : {r : ℕ} → r ≡ early c f (length frame) channels samples → (r ≡ done → ⊥)
       → called c f frame channels samples ≡ record { told = record { reply = r; answer = nonSpeech; chain = c }; frame = frame }
   unfolding refused frameRefusal
   refused-early {r} e n =
       let shape = isShape channels samples (length frame) && eqb samples (samplesOf c) in
-      called-refused (refused-first shape (passes c) (accepted f) (allWithin largestInput frame) (λ (z : refusal shape (passes c) (accepted f) true ≡ done). n (e ∙ z)) ∙ sym e) n
+      called-refused (refused-first shape (passes c) (accepted f) (allWithin largestInput frame) (λ (z : early c f (length frame) channels samples ≡ done). n (e ∙ z)) ∙ sym e) n
+
+  -- What comes out of it then.
+  pub refused-all : {r : ℕ} → r ≡ early c f (length frame) channels samples → (r ≡ done → ⊥)
+      → (record { reply = r; answer = nonSpeech; chain = c } ≡ called c f frame channels samples .told) × ((frame ≡ called c f frame channels samples .frame) × (r ≡ done → FullScale frame))
+  refused-all {r} e n =
+      let same = refused-early e n in
+      (sym (ap (λ (z : Called). z .told) same), (sym (ap (λ (z : Called). z .frame) same), λ (h : r ≡ done). absurd (n h)))
 
   module _ (held : HeldChain c) (figures : HeldFigures f) (sound : Held frame) where
     module _ (ok : called c f frame channels samples .told .reply ≡ done) where
@@ -122,14 +126,14 @@ module _ (c : Chain) (f : Figures) (frame : List Float) (channels samples : ℕ)
           (stepped-full-scale c f (record { held = held; state = tests .settings }) figures (tests .figures) frame channels samples sound taken-it)
 
     -- what the code's calls come to where the first three tests pass
-    module _ {before : ℕ} {first : LevelNext} {second : HeadroomNext} {third : GainNext} {out : List Float}
-        (e : before ≡ refusal (isShape channels samples (length frame) && eqb samples (samplesOf c)) (passes c) (accepted f) true) (z : before ≡ done)
-        (p : first ≡ Levels.stepped (c .estimator) (f .rms .0) (f .probability))
-        (q : second ≡ Headrooms.stepped (c .protector) (f .probability) (f .peak .0) (first .estimator .level))
-        (n : third ≡ Gaining.processed (c .controller) (informed (first .estimator) (second .protector) f) frame channels samples .next)
-        (o : out ≡ Gaining.processed (c .controller) (informed (first .estimator) (second .protector) f) frame channels samples .frame) where
+    module _ (z : early c f (length frame) channels samples ≡ done) {first : Estimator} {second : Protector} {told : Info} {third : GainNext} {out : List Float}
+        (p : first ≡ Levels.stepped (c .estimator) (f .rms .0) (f .probability) .estimator)
+        (q : second ≡ Headrooms.stepped (c .protector) (f .probability) (f .peak .0) (first .level) .protector)
+        (i : told ≡ informed first second f)
+        (n : third ≡ Gaining.processed (c .controller) told frame channels samples .next)
+        (o : out ≡ Gaining.processed (c .controller) told frame channels samples .frame) where
       all : (isShape channels samples (length frame) && eqb samples (samplesOf c) ≡ true) × (passes c ≡ true) × (accepted f ≡ true) × (true ≡ true)
-      all = none-refused (isShape channels samples (length frame) && eqb samples (samplesOf c)) (passes c) (accepted f) true (sym e ∙ z)
+      all = none-refused (isShape channels samples (length frame) && eqb samples (samplesOf c)) (passes c) (accepted f) true z
 
       ready : Ready c
       ready = record { held = held; state = all .1 }
@@ -137,25 +141,25 @@ module _ (c : Chain) (f : Figures) (frame : List Float) (channels samples : ℕ)
       was : Passed c
       was = passed-all c (all .1)
 
-      first-is : first .estimator ≡ heard c f
+      first-is : first ≡ heard c f
       first-is =
-          ap (λ (x : LevelNext). x .estimator) p
+          p
           ∙ level-is (c .estimator) (f .rms .0) (f .probability) (was .estimator) (heard-figures c f ready figures (all .2))
 
-      second-is : second .protector ≡ safe c f
+      second-is : second ≡ safe c f
       second-is =
-          ap (λ (x : HeadroomNext). x .protector) q
+          q
           ∙ ap (λ (x : Estimator). Headrooms.stepped (c .protector) (f .probability) (f .peak .0) (x .level) .protector) first-is
           ∙ HeadroomAgain.stepped-analyzed (c .protector) (f .probability) (f .peak .0) (heard c f .level) (was .protector) (safe-figures c f ready figures (all .2))
 
-      info-is : informed (first .estimator) (second .protector) f ≡ info c f
-      info-is = ap₂ (λ (x : Estimator) (y : Protector). informed x y f) first-is second-is
+      info-is : told ≡ info c f
+      info-is = i ∙ ap₂ (λ (x : Estimator) (y : Protector). informed x y f) first-is second-is
 
       third-is : third ≡ Gaining.processed (c .controller) (info c f) frame channels samples .next
-      third-is = n ∙ ap (λ (i : Info). Gaining.processed (c .controller) i frame channels samples .next) info-is
+      third-is = n ∙ ap (λ (x : Info). Gaining.processed (c .controller) x frame channels samples .next) info-is
 
       out-is : out ≡ Gaining.processed (c .controller) (info c f) frame channels samples .frame
-      out-is = o ∙ ap (λ (i : Info). Gaining.processed (c .controller) i frame channels samples .frame) info-is
+      out-is = o ∙ ap (λ (x : Info). Gaining.processed (c .controller) x frame channels samples .frame) info-is
 
       own-reply : Gaining.processed (c .controller) (info c f) frame channels samples .next .reply ≡ third .reply
       own-reply = ap (λ (x : GainNext). x .reply) (sym third-is)
@@ -181,8 +185,7 @@ module _ (c : Chain) (f : Figures) (frame : List Float) (channels samples : ℕ)
           ∙ ap (λ (x : List Float). record { told = record { reply = third .reply; answer = nonSpeech; chain = c }; frame = x }) (sym (out-is ∙ frame-same k))
 
       -- Where it does not, the chain is that of the four calls, the limiter's being the last.
-      module _ (k : third .reply ≡ done) {fourth : LimiterNext} {last : List Float} (l : fourth ≡ Limiting.processed (c .limiter) out channels samples .next)
-          (m : last ≡ Limiting.processed (c .limiter) out channels samples .frame) where
+      module _ (k : third .reply ≡ done) {last : List Float} (m : last ≡ Limiting.processed (c .limiter) out channels samples .frame) where
         done-it : refused c f frame channels samples ≡ done
         done-it = reply-is ∙ k
 
@@ -195,23 +198,28 @@ module _ (c : Chain) (f : Figures) (frame : List Float) (channels samples : ℕ)
         out-put : out ≡ put .frame
         out-put = out-is ∙ frame-is (c .controller) (info c f) frame channels samples own-done
 
-        step-built : shown done true (stepped c f frame channels samples) c frame
-            ≡ built (f .probability) (heard c f) (safe c f) (Gaining.with-applier (Gain.decided (c .controller) (info c f)) (put .next .applier))
-            (Limiting.processed (c .limiter) (put .frame) channels samples .next .limiter) (Limiting.processed (c .limiter) (put .frame) channels samples .frame)
-        unfolding shown built stepped
-        step-built = refl
+        step-ended : shown done true (stepped c f frame channels samples) c frame
+            ≡ record {
+              told =
+                  ended (f .probability) (heard c f) (safe c f) (Gaining.with-applier (Gain.decided (c .controller) (info c f)) (put .next .applier))
+                  (Limiting.processed (c .limiter) (put .frame) channels samples .next .limiter);
+              frame = Limiting.processed (c .limiter) (put .frame) channels samples .frame;
+            }
+        unfolding shown ended stepped
+        step-ended = refl
 
-        pub accepted-late : called c f frame channels samples ≡ built (f .probability) (first .estimator) (second .protector) (third .controller) (fourth .limiter) last
+        pub accepted-late : called c f frame channels samples
+            ≡ record { told = ended (f .probability) first second (third .controller) (Limiting.processed (c .limiter) out channels samples .next .limiter); frame = last }
         accepted-late =
-            called-accepted done-it ∙ step-built
-            ∙ built-same (f .probability) (sym first-is) (sym second-is)
+            called-accepted done-it ∙ step-ended
+            ∙ ended-same (f .probability) (sym first-is) (sym second-is)
             (sym (ap (λ (x : GainNext). x .controller) third-is ∙ controller-is (c .controller) (info c f) frame channels samples own-done))
-            (sym (ap (λ (x : LimiterNext). x .limiter) l ∙ ap (λ (x : List Float). Limiting.processed (c .limiter) x channels samples .next .limiter) out-put))
+            (sym (ap (λ (x : List Float). Limiting.processed (c .limiter) x channels samples .next .limiter) out-put))
             (sym (m ∙ ap (λ (x : List Float). Limiting.processed (c .limiter) x channels samples .frame) out-put))
 
         -- And what comes out is of full scale.
         pub late-full-scale : FullScale last
-        unfolding built
+        unfolding ended
         late-full-scale =
             subst FullScale (ap (λ (x : Called). x .frame) accepted-late)
             (called-full-scale (ap (λ (x : Called). x .told .reply) accepted-late))

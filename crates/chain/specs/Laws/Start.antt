@@ -19,22 +19,18 @@ use Rattle.speech_level_estimator.specs.Estimator as Level
 use Rattle.speech_level_estimator.specs.Calls as Levels
 use Rattle.speech_level_estimator.specs.Held as LevelHeld
 use Rattle.speech_level_estimator.specs.Laws.Again as LevelAgain
-use Rattle.speech_level_estimator.specs.declared.Next.{Next as LevelNext}
 use Rattle.saturation_protector.specs.Peaks as Peaks
 use Rattle.saturation_protector.specs.Protector as Headroom
 use Rattle.saturation_protector.specs.Calls as Headrooms
 use Rattle.saturation_protector.specs.Laws.Again as HeadroomAgain
-use Rattle.saturation_protector.specs.declared.Next.{Next as HeadroomNext}
 use Rattle.adaptive_digital_gain_controller.specs.Controller as Gain
 use Rattle.adaptive_digital_gain_controller.specs.Calls as Gaining
 use Rattle.adaptive_digital_gain_controller.specs.Range as GainRange
 use Rattle.adaptive_digital_gain_controller.specs.Laws.Calls as GainCalls
-use Rattle.adaptive_digital_gain_controller.specs.declared.Next.{Next as GainNext}
 use Rattle.fixed_digital_level_estimator.specs.Estimator as Envelope
 use Rattle.limiter.specs.Limiter as Limiting
 use Rattle.limiter.specs.Scale as Scale
 use Rattle.limiter.specs.Laws.States as LimiterStates
-use Rattle.limiter.specs.declared.Next.{Next as LimiterNext}
 use Rattle.chain.specs.Chain.{initial, alike, samplesOf}
 use Rattle.chain.specs.Calls.{fresh, nothing, made}
 use Rattle.chain.specs.Held.{HeldProtector, Ready}
@@ -179,8 +175,8 @@ module _ (s : Set) (t samples : ℕ) (h : GainRange.HeldSettings s) where
     pub made-samples : samplesOf (made s t samples .chain) ≡ samples
     made-samples = ap (λ (c : Chain). samplesOf c) made-fresh ∙ fresh-samples
 
--- ---- as the code makes it: each part by its own call, of settings, a threshold and samples that are all 0 where the chain is refused
-unfoldable four : Set → ℕ → ℕ → Chain
+-- ---- as the code makes it: each part by its own call, of a threshold and samples that are 0 where the chain is refused
+unfoldable pub four : Set → ℕ → ℕ → Chain
 four s t samples =
     record {
       estimator = Levels.made s t .estimator;
@@ -217,30 +213,18 @@ four-nothing s =
     let g = ap (λ (b : Bool). cond b (Gain.fresh s 0) Gain.nothing) (no-frames s) in
     λ i. record { estimator = e i; protector = Headroom.nothing; controller = g i; limiter = Limiting.none }
 
-four-is : (b : Bool) (s unset : Set) (t samples : ℕ) → (b ≡ true → (isSamples samples ≡ true) × (Settings.accepted s && Settings.threshold t ≡ true))
-    → four (cond b s unset) (cond b t 0) (cond b samples 0) ≡ cond b (fresh s t samples) nothing
-four-is true s unset t samples h = four-fresh s t samples (h refl .1) (h refl .0)
-four-is false s unset t samples h = four-nothing unset
+four-is : (b : Bool) (s : Set) (t samples : ℕ) → (b ≡ true → (isSamples samples ≡ true) × (Settings.accepted s && Settings.threshold t ≡ true))
+    → four s (cond b t 0) (cond b samples 0) ≡ cond b (fresh s t samples) nothing
+four-is true s t samples h = four-fresh s t samples (h refl .1) (h refl .0)
+four-is false s t samples h = four-nothing s
 
 -- What the code's calls come to is the definition's.
-pub made-parts : (s unset : Set) (t samples : ℕ) {a b d : Bool} {reply frames size : ℕ} {set : Set} {first : LevelNext} {second : HeadroomNext} {third : GainNext} {fourth : LimiterNext}
+pub made-parts : (s : Set) (t samples : ℕ) {a b d : Bool} {reply frames size : ℕ} {chain : Chain}
     → a ≡ isSamples samples → b ≡ Settings.accepted s → d ≡ Settings.threshold t → reply ≡ refusal a (b && d) true true
-    → set ≡ cond (a && (b && d)) s unset → frames ≡ cond (a && (b && d)) t 0 → size ≡ cond (a && (b && d)) samples 0
-    → first ≡ Levels.made set frames → second ≡ Headrooms.made initial frames → third ≡ Gaining.made set frames → fourth ≡ Limiting.made size
-    → _≡_ {A = Made} (record { reply = reply; chain = record { estimator = first .estimator; protector = second .protector; controller = third .controller; limiter = fourth .limiter } }) (made s t samples)
-unfolding made four
-made-parts s unset t samples {reply = reply} {first = first} {second = second} {third = third} {fourth = fourth} pa pb pd pr ps pf pz p1 p2 p3 p4 =
+    → frames ≡ cond (a && (b && d)) t 0 → size ≡ cond (a && (b && d)) samples 0
+    → chain ≡ four s frames size → _≡_ {A = Made} (record { reply = reply; chain = chain }) (made s t samples)
+unfolding made
+made-parts s t samples pa pb pd pr pf pz pc =
     let ok = isSamples samples && (Settings.accepted s && Settings.threshold t) in
-    let same = ap₂ _&&_ pa (ap₂ _&&_ pb pd) in
-    let s' = ps ∙ ap (λ (x : Bool). cond x s unset) same in
-    let f' = pf ∙ ap (λ (x : Bool). cond x t 0) same in
-    let z' = pz ∙ ap (λ (x : Bool). cond x samples 0) same in
-    let e = ap (λ (x : LevelNext). x .estimator) p1 ∙ ap₂ (λ (x : Set) (y : ℕ). Levels.made x y .estimator) s' f' in
-    let p = ap (λ (x : HeadroomNext). x .protector) p2 ∙ ap (λ (y : ℕ). Headrooms.made initial y .protector) f' in
-    let g = ap (λ (x : GainNext). x .controller) p3 ∙ ap₂ (λ (x : Set) (y : ℕ). Gaining.made x y .controller) s' f' in
-    let l = ap (λ (x : LimiterNext). x .limiter) p4 ∙ ap (λ (y : ℕ). Limiting.made y .limiter) z' in
-    let c : _≡_ {A = Chain} (record { estimator = first .estimator; protector = second .protector; controller = third .controller; limiter = fourth .limiter }) (four (cond ok s unset) (cond ok t 0) (cond ok samples 0)) =
-    λ i. record { estimator = e i; protector = p i; controller = g i; limiter = l i } in
-    let all = c ∙ four-is ok s unset t samples (λ (h : ok ≡ true). let q = each-of (isSamples samples ∷ (Settings.accepted s && Settings.threshold t) ∷ []) h in (q 0, q 1)) in
-    let r = pr ∙ ap₂ (λ (x y : Bool). refusal x y true true) pa (ap₂ _&&_ pb pd) in
-    λ i. record { reply = r i; chain = all i }
+    let all = four-is ok s t samples (λ (h : ok ≡ true). let q = each-of (isSamples samples ∷ (Settings.accepted s && Settings.threshold t) ∷ []) h in (q 0, q 1)) in
+    rw (pr, pc, pf, pz, pa, pb, pd, all)

@@ -1,4 +1,4 @@
--- `chain::Chain::new` meets its contract: each part is made by its own call, of all 0 where the chain is refused. Assumes nothing.
+-- `chain::Chain::new` meets its contract: the parts are made of a threshold and samples that are 0 where the chain is refused. Assumes nothing.
 use borrow.Author.Needs.{needs}
 use Rattle.chain.specs.Laws.Start.{made-parts}
 use Rattle.chain.proofs.Chain.new.Statement.{statement}
@@ -16,36 +16,20 @@ is-threshold-requires c κs = search needs
 refusal-requires : tie.Need-refusal-requires
 refusal-requires c κs = search needs
 
-unset-requires : tie.Need-unset-requires
-unset-requires c κs = search needs
-
-pick-settings-requires : tie.Need-pick-settings-requires
-pick-settings-requires c κs = search needs
-
 pick-u32-requires : tie.Need-pick-u32-requires
 pick-u32-requires c κs = search needs
 
 pick-usize-requires : tie.Need-pick-usize-requires
 pick-usize-requires c κs = search needs
 
-new-requires : tie.Need-new-requires
-new-requires c κs = search needs
-
-new-requires-2 : tie.Need-new-requires-2
-new-requires-2 c κs = search needs
-
-new-requires-3 : tie.Need-new-requires-3
-new-requires-3 c κs = search needs
-
-new-requires-4 : tie.Need-new-requires-4
-new-requires-4 c κs = search needs
+four-requires : tie.Need-four-requires
+four-requires c κs = search needs
 
 returns : tie.Need-returns
 returns c =
-    let picks = c .before .before .before .before .before .before .before .before in
-    let tests = picks .before .before .before .before .before in
+    let tests = c .before .before .before .before in
     let s = tests .before .before .before in
-    made-parts (s .args .settings) (picks .before .before .before .unset .result) (s .args .threshold) (s .args .samples) (tests .before .before .is-samples .ensures) (tests .before .accepted .ensures) (tests .is-threshold .ensures) (picks .before .before .before .before .refusal .ensures) (picks .before .before .pick-settings .ensures) (picks .before .pick-u32 .ensures) (picks .pick-usize .ensures) (c .before .before .before .before .before .before .before .new .ensures) (c .before .before .before .before .before .before .new2 .ensures) (c .before .before .before .before .before .new3 .ensures) (c .before .before .before .before .new4 .ensures)
+    made-parts (s .args .settings) (s .args .threshold) (s .args .samples) (tests .before .before .is-samples .ensures) (tests .before .accepted .ensures) (tests .is-threshold .ensures) (c .before .before .before .refusal .ensures) (c .before .before .pick-u32 .ensures) (c .before .pick-usize .ensures) (c .four .ensures)
 
 pub new-spec : {M : Type 1} → statement M
 new-spec =
@@ -55,12 +39,7 @@ new-spec =
     accepted-requires
     is-threshold-requires
     refusal-requires
-    unset-requires
-    pick-settings-requires
     pick-u32-requires
     pick-usize-requires
-    new-requires
-    new-requires-2
-    new-requires-3
-    new-requires-4
+    four-requires
     returns)
