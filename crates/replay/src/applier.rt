@@ -10,15 +10,19 @@
 // whether it passes; and get_gain_factor (a reply and the factor).
 
 use crate::desk::ASKED;
+use crate::desk::Reply;
 use crate::figures;
+use crate::figures::Desk;
+use crate::figures::Given;
 use crate::numbers;
 use gain_applier::Applier;
+use gain_applier::Next;
 use units::replies::DONE;
 
 // Where the figures stand on the desk.
 pub const FROM: usize = 114;
 
-pub const SHOWN: usize = 8;
+const SHOWN: usize = 8;
 
 // The words, by their numbers in the list of src/desk.rt.
 pub const FIRST: u32 = 15;
@@ -32,7 +36,7 @@ const FACTOR: u32 = 17;
 pub const APPLY: u32 = 18;
 
 // The applier whose figures stand at a place.
-pub(crate) fn read(all: &[u32], from: usize) -> Applier {
+pub(crate) fn read(all: &Desk, from: usize) -> Applier {
     Applier {
         clip: figures::flag(all, from, 0),
         last: figures::float(all, from, 1),
@@ -57,52 +61,41 @@ fn shown(applier: Applier) -> [u32; 8] {
     ]
 }
 
-// Leaves an applier's figures on the desk, and answers the reply.
-fn leave(desk: &mut [u32], reply: u32, applier: Applier) -> u32 {
+// Leaves an applier's figures on the desk.
+fn leave(desk: &mut Desk, applier: Applier) {
     let all = shown(applier);
     figures::put(desk, FROM, &all);
-    reply
 }
 
-// applier.new
-fn new(desk: &mut [u32]) -> u32 {
-    let clip = figures::flag(desk, ASKED, 0);
-    let a = Applier::new(clip, figures::float(desk, ASKED, 1));
-    let made = a.applier;
-    leave(desk, a.reply, made)
-}
-
-// applier.set
-fn set(desk: &mut [u32]) -> u32 {
-    let given = read(desk, ASKED);
-    leave(desk, DONE, given)
-}
-
-// applier.factor
-fn factor(desk: &mut [u32]) -> u32 {
-    let a = read(desk, FROM).set_gain_factor(figures::float(desk, ASKED, 0));
-    let after = a.applier;
-    leave(desk, a.reply, after)
-}
-
-// applier.apply
-fn apply(desk: &mut [u32], frame: &mut [f32]) -> u32 {
-    let channels = figures::count(desk, ASKED, 0);
-    let samples = figures::count(desk, ASKED, 1);
-    let a = read(desk, FROM).apply_gain(frame, channels, samples);
-    let after = a.applier;
-    leave(desk, a.reply, after)
+// The reply to a question about an applier, and the applier after it.
+fn next(word: u32, applier: Applier, given: Given, frame: &mut [f32]) -> Next {
+    if word == NEW {
+        Applier::new(given.first != 0, bits::float_of(given.second))
+    } else if word == FACTOR {
+        applier.set_gain_factor(bits::float_of(given.first))
+    } else if word == APPLY {
+        applier.apply_gain(
+            frame,
+            figures::wide(given.first),
+            figures::wide(given.second),
+        )
+    } else {
+        Next {
+            reply: DONE,
+            applier,
+        }
+    }
 }
 
 // Answers the question that lies on the desk.
-pub(crate) fn answer(word: u32, desk: &mut [u32], frame: &mut [f32]) -> u32 {
-    if word == NEW {
-        new(desk)
-    } else if word == SET {
-        set(desk)
-    } else if word == FACTOR {
-        factor(desk)
-    } else {
-        apply(desk, frame)
+pub(crate) fn answer(word: u32, given: Given, desk: &mut Desk, frame: &mut [f32]) -> Reply {
+    let before = read(desk, numbers::pick(word == SET, ASKED, FROM));
+    let a = next(word, before, given, frame);
+    leave(desk, a.applier);
+    Reply {
+        number: a.reply,
+        from: FROM,
+        size: SHOWN,
+        told: 0,
     }
 }

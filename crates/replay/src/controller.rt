@@ -12,11 +12,15 @@
 
 use crate::applier;
 use crate::desk::ASKED;
+use crate::desk::Reply;
 use crate::figures;
+use crate::figures::Desk;
+use crate::figures::Given;
 use crate::numbers;
 use crate::speech;
 use adaptive_digital_gain_controller::Controller;
 use adaptive_digital_gain_controller::Info;
+use adaptive_digital_gain_controller::Next;
 use std::num::wrapping_add_usize;
 use units::kinds::Db;
 use units::kinds::Dbfs;
@@ -25,19 +29,20 @@ use units::replies::DONE;
 // Where the figures stand on the desk.
 pub const FROM: usize = 187;
 
-pub const SHOWN: usize = 15;
+const SHOWN: usize = 15;
+
+// Where the question has what is known of the frame.
+const KNOWN: usize = 2;
 
 // The words, by their numbers in the list of src/desk.rt.
 pub const FIRST: u32 = 32;
 
 const NEW: u32 = 32;
 
-const SET: u32 = 33;
-
 pub const PROCESS: u32 = 34;
 
 // What is known of a frame, whose figures stand at a place.
-fn info(all: &[u32], from: usize) -> Info {
+fn info(all: &Desk, from: usize) -> Info {
     Info {
         probability: figures::float(all, from, 0),
         level: Dbfs(figures::float(all, from, 1)),
@@ -49,7 +54,7 @@ fn info(all: &[u32], from: usize) -> Info {
 }
 
 // The controller whose figures stand at a place.
-pub(crate) fn read(all: &[u32], from: usize) -> Controller {
+pub(crate) fn read(all: &Desk, from: usize) -> Controller {
     Controller {
         applier: applier::read(all, from),
         settings: speech::settings(all, wrapping_add_usize(from, 5)),
@@ -62,19 +67,17 @@ pub(crate) fn read(all: &[u32], from: usize) -> Controller {
 
 // The figures that are shown of a controller.
 fn shown(controller: Controller) -> [u32; 15] {
-    let applier = controller.applier;
-    let settings = controller.settings;
     [
-        numbers::flag(applier.clip),
-        bits::bits_of(applier.last),
-        bits::bits_of(applier.current),
-        numbers::unsigned32(applier.samples),
-        bits::bits_of(applier.inverse),
-        bits::bits_of(settings.headroom.0),
-        bits::bits_of(settings.largest.0),
-        bits::bits_of(settings.initial.0),
-        bits::bits_of(settings.change),
-        bits::bits_of(settings.noise.0),
+        numbers::flag(controller.applier.clip),
+        bits::bits_of(controller.applier.last),
+        bits::bits_of(controller.applier.current),
+        numbers::unsigned32(controller.applier.samples),
+        bits::bits_of(controller.applier.inverse),
+        bits::bits_of(controller.settings.headroom.0),
+        bits::bits_of(controller.settings.largest.0),
+        bits::bits_of(controller.settings.initial.0),
+        bits::bits_of(controller.settings.change),
+        bits::bits_of(controller.settings.noise.0),
         controller.threshold,
         bits::bits_of(controller.change),
         controller.waiting,
@@ -83,43 +86,36 @@ fn shown(controller: Controller) -> [u32; 15] {
     ]
 }
 
-// Leaves a controller's figures on the desk, and answers the reply.
-pub(crate) fn leave(desk: &mut [u32], reply: u32, controller: Controller) -> u32 {
+// Leaves a controller's figures on the desk.
+pub(crate) fn leave(desk: &mut Desk, controller: Controller) {
     let all = shown(controller);
     figures::put(desk, FROM, &all);
-    reply
 }
 
-// controller.new
-fn new(desk: &mut [u32]) -> u32 {
-    let a = Controller::new(speech::settings(desk, ASKED), figures::word(desk, ASKED, 5));
-    let made = a.controller;
-    leave(desk, a.reply, made)
-}
-
-// controller.set
-fn set(desk: &mut [u32]) -> u32 {
-    let given = read(desk, ASKED);
-    leave(desk, DONE, given)
-}
-
-// controller.process
-fn process(desk: &mut [u32], frame: &mut [f32]) -> u32 {
-    let channels = figures::count(desk, ASKED, 0);
-    let samples = figures::count(desk, ASKED, 1);
-    let known = info(desk, wrapping_add_usize(ASKED, 2));
-    let a = read(desk, FROM).process(known, frame, channels, samples);
-    let after = a.controller;
-    leave(desk, a.reply, after)
+// The reply to the question that lies on the desk, and the controller after it.
+fn next(word: u32, given: Given, desk: &Desk, frame: &mut [f32]) -> Next {
+    if word == NEW {
+        Controller::new(speech::settings(desk, ASKED), figures::word(desk, ASKED, 5))
+    } else if word == PROCESS {
+        let known = info(desk, KNOWN);
+        let channels = figures::wide(given.first);
+        read(desk, FROM).process(known, frame, channels, figures::wide(given.second))
+    } else {
+        Next {
+            reply: DONE,
+            controller: read(desk, ASKED),
+        }
+    }
 }
 
 // Answers the question that lies on the desk.
-pub(crate) fn answer(word: u32, desk: &mut [u32], frame: &mut [f32]) -> u32 {
-    if word == NEW {
-        new(desk)
-    } else if word == SET {
-        set(desk)
-    } else {
-        process(desk, frame)
+pub(crate) fn answer(word: u32, given: Given, desk: &mut Desk, frame: &mut [f32]) -> Reply {
+    let a = next(word, given, desk, frame);
+    leave(desk, a.controller);
+    Reply {
+        number: a.reply,
+        from: FROM,
+        size: SHOWN,
+        told: 0,
     }
 }

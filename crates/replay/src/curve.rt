@@ -10,18 +10,21 @@
 // duration (two figures); whether it passes; and the gain, which is 0 where none is asked for.
 
 use crate::desk::ASKED;
-use crate::desk::RESULTS;
+use crate::desk::Reply;
 use crate::desk::TOLD;
 use crate::figures;
+use crate::figures::Desk;
+use crate::figures::Given;
 use crate::numbers;
 use interpolated_gain_curve::Curve;
+use interpolated_gain_curve::Looked;
 use units::kinds::LinearS16;
 use units::replies::DONE;
 
 // Where the figures stand on the desk.
 pub const FROM: usize = 94;
 
-pub const SHOWN: usize = 14;
+const SHOWN: usize = 14;
 
 // The words, by their numbers in the list of src/desk.rt.
 pub const FIRST: u32 = 6;
@@ -32,8 +35,10 @@ const SET: u32 = 7;
 
 const LEVEL: u32 = 8;
 
+const STATS: u32 = 9;
+
 // The curve whose figures stand at a place.
-pub(crate) fn read(all: &[u32], from: usize) -> Curve {
+pub(crate) fn read(all: &Desk, from: usize) -> Curve {
     Curve {
         identity: figures::long(all, from, 0),
         knee: figures::long(all, from, 2),
@@ -67,50 +72,49 @@ fn shown(curve: Curve, gain: f32) -> [u32; 14] {
 }
 
 // Stores the figures that are shown of a curve, from a place on.
-pub(crate) fn put(desk: &mut [u32], from: usize, curve: Curve, gain: f32) {
+pub(crate) fn put(desk: &mut Desk, from: usize, curve: Curve, gain: f32) {
     let all = shown(curve, gain);
     figures::put(desk, from, &all);
 }
 
-// Leaves a curve's figures on the desk, and answers the reply.
-fn leave(desk: &mut [u32], reply: u32, curve: Curve, gain: f32) -> u32 {
-    put(desk, FROM, curve, gain);
-    reply
-}
-
-// curve.set
-fn set(desk: &mut [u32]) -> u32 {
-    let given = read(desk, ASKED);
-    leave(desk, DONE, given, 0.0)
-}
-
-// curve.level
-fn level(desk: &mut [u32]) -> u32 {
-    let level = LinearS16(figures::float(desk, ASKED, 0));
-    let a = read(desk, FROM).look_up_gain_to_apply(level);
-    let after = a.curve;
-    leave(desk, a.reply, after, a.gain)
-}
-
-// curve.stats
-fn stats(desk: &mut [u32]) -> u32 {
-    let curve = read(desk, FROM);
-    let a = curve.get_stats();
-    let given = a.stats;
-    put(desk, TOLD, given, 0.0);
-    figures::store(desk, RESULTS, 12);
-    leave(desk, a.reply, curve, 0.0)
-}
-
-// Answers the question that lies on the desk.
-pub(crate) fn answer(word: u32, desk: &mut [u32]) -> u32 {
+// The reply to a question about a curve, the curve after it, and a gain. A question that has one figure
+// has a level.
+fn next(word: u32, curve: Curve, level: f32) -> Looked {
     if word == NEW {
-        leave(desk, DONE, Curve::new(), 0.0)
-    } else if word == SET {
-        set(desk)
+        Looked {
+            reply: DONE,
+            curve: Curve::new(),
+            gain: 0.0,
+        }
     } else if word == LEVEL {
-        level(desk)
+        curve.look_up_gain_to_apply(LinearS16(level))
+    } else if word == STATS {
+        let a = curve.get_stats();
+        Looked {
+            reply: a.reply,
+            curve,
+            gain: 0.0,
+        }
     } else {
-        stats(desk)
+        Looked {
+            reply: DONE,
+            curve,
+            gain: 0.0,
+        }
+    }
+}
+
+// Answers the question that lies on the desk. The statistics stand there whatever is asked.
+pub(crate) fn answer(word: u32, given: Given, desk: &mut Desk) -> Reply {
+    let before = read(desk, numbers::pick(word == SET, ASKED, FROM));
+    let a = next(word, before, bits::float_of(given.first));
+    let statistics = before.get_stats();
+    put(desk, TOLD, statistics.stats, 0.0);
+    put(desk, FROM, a.curve, a.gain);
+    Reply {
+        number: a.reply,
+        from: FROM,
+        size: SHOWN,
+        told: numbers::pick(word == STATS, 12, 0),
     }
 }

@@ -15,17 +15,22 @@
 // that frames of a wrong length can be asked about too. The controller has six more figures before the
 // samples, and the chain five.
 //
-// The desk is figures in a row: those of the question, how many results there are, the results, and
-// then each part's state with what is shown behind it, as it is answered.
+// The desk is figures in a row: those of the question, the results, and then each part's state with what
+// is shown behind it, as it is answered. A part's file has its question handled in this order: the state is
+// read from the desk, or from the question where that hands one in; a function of the part's crate is asked,
+// by value; and the state after it is left on the desk.
 
 use crate::applier;
 use crate::controller;
 use crate::curve;
 use crate::estimator;
 use crate::figures;
+use crate::figures::Desk;
+use crate::figures::Given;
 use crate::limits;
 use crate::lines;
 use crate::lines::Asked;
+use crate::lines::Out;
 use crate::numbers;
 use crate::protector;
 use crate::ratio;
@@ -39,78 +44,28 @@ pub const ASKED: usize = 0;
 
 pub const MOST_ASKED: usize = 32;
 
-// Where the number of results stands, and the results.
-pub const RESULTS: usize = 32;
+// Where the results stand.
+pub const TOLD: usize = 32;
 
-pub const TOLD: usize = 33;
-
-// The reply's number to what is no question.
-pub const NO_QUESTION: u32 = 4294967295;
+// What a part answers: the reply's number, where on the desk the figures stand that are shown of the part,
+// how many those are, and how many results there are.
+pub struct Reply {
+    pub number: u32,
+    pub from: usize,
+    pub size: usize,
+    pub told: usize,
+}
 
 // The number of a line's name, in the list of all names. Before each name stands how many figures it
 // takes, as a digit in which a is 10, or a star where it takes a frame, or a plus where it takes one with
-// six figures more, or a minus where it takes one with five more. A line that is no name with its figures has the number after the last.
+// six figures more, or a minus where it takes one with five more. A line that is no name with its figures
+// has the number after the last.
 fn word_of(line: &[u8], asked: Asked) -> u32 {
     lines::number_of(
         line,
         asked,
         b"1ratio 0ring.new 6ring.set 1ring.push 0ring.reset 0ring.keep 0curve.new ccurve.set 1curve.level 0curve.stats 1estimator.new 3estimator.set 1estimator.samples 0estimator.reset *estimator.level 2applier.new 5applier.set 1applier.factor *applier.apply 1limiter.new glimiter.set 1limiter.samples 0limiter.reset *limiter.process 6speech.new gspeech.set 2speech.update 0speech.reset 2protector.new mprotector.set 3protector.analyze 0protector.reset 6controller.new econtroller.set +controller.process 7chain.new -chain.step ",
     )
-}
-
-// Where a part's figures stand, and how many there are.
-struct Place {
-    from: usize,
-    size: usize,
-}
-
-// The place of the part that a name asks.
-fn place_of(word: u32) -> Place {
-    if word < ring::FIRST {
-        Place { from: 0, size: 0 }
-    } else if word < curve::FIRST {
-        Place {
-            from: ring::FROM,
-            size: ring::SHOWN,
-        }
-    } else if word < estimator::FIRST {
-        Place {
-            from: curve::FROM,
-            size: curve::SHOWN,
-        }
-    } else if word < applier::FIRST {
-        Place {
-            from: estimator::FROM,
-            size: estimator::SHOWN,
-        }
-    } else if word < limits::FIRST {
-        Place {
-            from: applier::FROM,
-            size: applier::SHOWN,
-        }
-    } else if word < speech::FIRST {
-        Place {
-            from: limits::FROM,
-            size: limits::SHOWN,
-        }
-    } else if word < protector::FIRST {
-        Place {
-            from: speech::FROM,
-            size: speech::SHOWN,
-        }
-    } else if word < controller::FIRST {
-        Place {
-            from: protector::FROM,
-            size: protector::SHOWN,
-        }
-    } else if word < whole::FIRST {
-        Place {
-            from: controller::FROM,
-            size: controller::SHOWN,
-        }
-    } else {
-        Place { from: 0, size: 0 }
-    }
 }
 
 // Whether a name asks about a frame.
@@ -135,43 +90,56 @@ fn bytes_before(word: u32) -> usize {
     numbers::pick(word == controller::PROCESS, 73, few)
 }
 
-// Asks the part, which leaves its figures on the desk, and answers the reply.
-fn of_part(word: u32, desk: &mut [u32], frame: &mut [f32]) -> u32 {
+// Whether a name asks a part that no frame is handed to.
+fn is_quiet(word: u32) -> bool {
+    (word < estimator::FIRST) | (speech::FIRST <= word) & (word < controller::FIRST)
+}
+
+// Asks such a part.
+fn of_quiet(word: u32, given: Given, desk: &mut Desk) -> Reply {
     if word < ring::FIRST {
-        ratio::answer(desk)
+        ratio::answer(given, desk)
     } else if word < curve::FIRST {
-        ring::answer(word, desk)
+        ring::answer(word, given, desk)
     } else if word < estimator::FIRST {
-        curve::answer(word, desk)
-    } else if word < applier::FIRST {
-        estimator::answer(word, desk, frame)
-    } else if word < limits::FIRST {
-        applier::answer(word, desk, frame)
-    } else if word < speech::FIRST {
-        limits::answer(word, desk, frame)
+        curve::answer(word, given, desk)
     } else if word < protector::FIRST {
-        speech::answer(word, desk)
-    } else if word < controller::FIRST {
-        protector::answer(word, desk)
-    } else if word < whole::FIRST {
-        controller::answer(word, desk, frame)
-    } else if word < whole::LAST {
-        whole::answer(word, desk, frame)
+        speech::answer(word, given, desk)
     } else {
-        NO_QUESTION
+        protector::answer(word, given, desk)
+    }
+}
+
+// Asks another part.
+fn of_loud(word: u32, given: Given, desk: &mut Desk, frame: &mut [f32]) -> Reply {
+    if word < applier::FIRST {
+        estimator::answer(word, given, desk, frame)
+    } else if word < limits::FIRST {
+        applier::answer(word, given, desk, frame)
+    } else if word < speech::FIRST {
+        limits::answer(word, given, desk, frame)
+    } else if word < whole::FIRST {
+        controller::answer(word, given, desk, frame)
+    } else {
+        whole::answer(word, given, desk, frame)
+    }
+}
+
+// Asks the part, which leaves its figures on the desk, and answers the reply.
+fn of_part(word: u32, desk: &mut Desk, frame: &mut [f32]) -> Reply {
+    let given = figures::asked(desk);
+    if is_quiet(word) {
+        of_quiet(word, given, desk)
+    } else {
+        of_loud(word, given, desk, frame)
     }
 }
 
 // Puts an answer at a place of a buffer, as a line, and answers the place after it.
-fn put(out: &mut [u8], at: usize, reply: u32, word: u32, desk: &[u32], frame: &[f32]) -> usize {
-    if reply == NO_QUESTION {
-        return lines::end(out, at, at);
-    }
-    let shown = place_of(word);
-    let told = figures::count(desk, RESULTS, 0);
-    let first = lines::put(out, at, reply);
-    let second = lines::put_figures(out, first, desk, shown.from, shown.size);
-    let third = lines::put_figures(out, second, desk, TOLD, told);
+fn put(out: &mut Out, at: usize, reply: Reply, desk: &Desk, frame: &[f32]) -> usize {
+    let first = lines::put(out, at, reply.number);
+    let second = lines::put_figures(out, first, desk, reply.from, reply.size);
+    let third = lines::put_figures(out, second, desk, TOLD, reply.told);
     let last = lines::put_samples(out, third, frame);
     lines::end(out, at, last)
 }
@@ -181,22 +149,24 @@ fn answer_in(
     line: &[u8],
     name: usize,
     word: u32,
-    desk: &mut [u32],
+    desk: &mut Desk,
     frame: &mut [f32],
-    out: &mut [u8],
+    out: &mut Out,
     at: usize,
 ) -> usize {
     figures::ask(desk, line, name, MOST_ASKED);
-    figures::store(desk, RESULTS, 0);
     lines::fill(line, wrapping_add_usize(name, bytes_before(word)), frame);
     let reply = of_part(word, desk, frame);
-    put(out, at, reply, word, desk, frame)
+    put(out, at, reply, desk, frame)
 }
 
 // Answers a line: puts the answer at a place of a buffer, and answers the place after it.
-pub(crate) fn answer(line: &[u8], desk: &mut [u32], out: &mut [u8], at: usize) -> usize {
+pub(crate) fn answer(line: &[u8], desk: &mut Desk, out: &mut Out, at: usize) -> usize {
     let asked = lines::split(line);
     let word = word_of(line, asked);
+    if whole::LAST <= word {
+        return lines::end(out, at, at);
+    }
     let mut frame = [0.0f32; lines::MOST];
     let count = numbers::pick(is_sound(word), asked.count, 0);
     let n = lines::samples_of(count, before(word), &frame);

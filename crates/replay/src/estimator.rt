@@ -10,17 +10,21 @@
 // a sub-frame); whether it passes; and last_audio_level (a reply and the level).
 
 use crate::desk::ASKED;
-use crate::desk::RESULTS;
+use crate::desk::Reply;
 use crate::desk::TOLD;
 use crate::figures;
+use crate::figures::Desk;
+use crate::figures::Given;
 use crate::numbers;
 use fixed_digital_level_estimator::Estimator;
+use fixed_digital_level_estimator::Levels;
+use fixed_digital_level_estimator::Next;
 use units::replies::DONE;
 
 // Where the figures stand on the desk.
 pub const FROM: usize = 108;
 
-pub const SHOWN: usize = 6;
+const SHOWN: usize = 6;
 
 // The words, by their numbers in the list of src/desk.rt.
 pub const FIRST: u32 = 10;
@@ -36,7 +40,7 @@ const RESET: u32 = 13;
 pub const LEVEL: u32 = 14;
 
 // The estimator whose figures stand at a place.
-pub(crate) fn read(all: &[u32], from: usize) -> Estimator {
+pub(crate) fn read(all: &Desk, from: usize) -> Estimator {
     Estimator {
         level: figures::float(all, from, 0),
         samples: figures::count(all, from, 1),
@@ -47,79 +51,63 @@ pub(crate) fn read(all: &[u32], from: usize) -> Estimator {
 // The figures that are shown of an estimator.
 fn shown(estimator: Estimator) -> [u32; 6] {
     let heard = estimator.last_audio_level();
-    let level = heard.level;
     [
         bits::bits_of(estimator.level),
-        numbers::low(estimator.samples as u64),
-        numbers::low(estimator.part as u64),
+        numbers::narrow(estimator.samples),
+        numbers::narrow(estimator.part),
         numbers::flag(estimator.passes()),
         heard.reply,
-        bits::bits_of(level.0),
+        bits::bits_of(heard.level.0),
     ]
 }
 
 // Stores the figures that are shown of an estimator, from a place on.
-pub(crate) fn put(desk: &mut [u32], from: usize, estimator: Estimator) {
+pub(crate) fn put(desk: &mut Desk, from: usize, estimator: Estimator) {
     let all = shown(estimator);
     figures::put(desk, from, &all);
 }
 
-// Leaves an estimator's figures on the desk, and answers the reply.
-fn leave(desk: &mut [u32], reply: u32, estimator: Estimator) -> u32 {
-    put(desk, FROM, estimator);
-    reply
+// What is answered where no envelope is asked for.
+fn still(a: Next) -> Levels {
+    let estimator = a.estimator;
+    let envelope = [0.0f32; 20];
+    Levels {
+        reply: a.reply,
+        estimator,
+        envelope,
+    }
 }
 
-// estimator.new
-fn new(desk: &mut [u32]) -> u32 {
-    let a = Estimator::new(figures::count(desk, ASKED, 0));
-    let made = a.estimator;
-    leave(desk, a.reply, made)
+// The reply to a question about an estimator, the estimator after it, and the envelope.
+fn next(word: u32, estimator: Estimator, given: Given, frame: &[f32]) -> Levels {
+    let first = figures::wide(given.first);
+    if word == NEW {
+        still(Estimator::new(first))
+    } else if word == SAMPLES {
+        still(estimator.set_samples_per_channel(first))
+    } else if word == RESET {
+        still(estimator.reset())
+    } else if word == LEVEL {
+        estimator.compute_level(frame, first, figures::wide(given.second))
+    } else {
+        still(Next {
+            reply: DONE,
+            estimator,
+        })
+    }
 }
 
-// estimator.set
-fn set(desk: &mut [u32]) -> u32 {
-    let given = read(desk, ASKED);
-    leave(desk, DONE, given)
-}
-
-// estimator.samples
-fn samples(desk: &mut [u32]) -> u32 {
-    let a = read(desk, FROM).set_samples_per_channel(figures::count(desk, ASKED, 0));
-    let after = a.estimator;
-    leave(desk, a.reply, after)
-}
-
-// estimator.reset
-fn reset(desk: &mut [u32]) -> u32 {
-    let a = read(desk, FROM).reset();
-    let after = a.estimator;
-    leave(desk, a.reply, after)
-}
-
-// estimator.level
-fn level(desk: &mut [u32], frame: &[f32]) -> u32 {
-    let channels = figures::count(desk, ASKED, 0);
-    let samples = figures::count(desk, ASKED, 1);
-    let a = read(desk, FROM).compute_level(frame, channels, samples);
-    let after = a.estimator;
+// Answers the question that lies on the desk. An envelope stands there whatever is asked.
+pub(crate) fn answer(word: u32, given: Given, desk: &mut Desk, frame: &[f32]) -> Reply {
+    let before = read(desk, numbers::pick(word == SET, ASKED, FROM));
+    let a = next(word, before, given, frame);
     let envelope = a.envelope;
     figures::put_floats(desk, TOLD, &envelope);
-    figures::store(desk, RESULTS, 20);
-    leave(desk, a.reply, after)
-}
-
-// Answers the question that lies on the desk.
-pub(crate) fn answer(word: u32, desk: &mut [u32], frame: &[f32]) -> u32 {
-    if word == NEW {
-        new(desk)
-    } else if word == SET {
-        set(desk)
-    } else if word == SAMPLES {
-        samples(desk)
-    } else if word == RESET {
-        reset(desk)
-    } else {
-        level(desk, frame)
+    put(desk, FROM, a.estimator);
+    Reply {
+        number: a.reply,
+        from: FROM,
+        size: SHOWN,
+        told: numbers::pick(word == LEVEL, 20, 0),
     }
 }

@@ -4,50 +4,91 @@
 use crate::numbers;
 use std::num::wrapping_add_usize;
 
+// How many figures the desk has, for the parts of today and some more.
+pub const FIGURES: usize = 256;
+
+// The desk.
+pub type Desk = [u32; 256];
+
 // The figure at a place.
-fn at(all: &[u32], place: usize) -> u32 {
-    if place < all.len() { all[place] } else { 0 }
+fn at(all: &Desk, place: usize) -> u32 {
+    if place < FIGURES { all[place] } else { 0 }
 }
 
 // The figure that stands so many after a place.
-pub(crate) fn word(all: &[u32], from: usize, i: usize) -> u32 {
+pub(crate) fn word(all: &Desk, from: usize, i: usize) -> u32 {
     at(all, wrapping_add_usize(from, i))
 }
 
 // The same, as a float.
-pub(crate) fn float(all: &[u32], from: usize, i: usize) -> f32 {
+pub(crate) fn float(all: &Desk, from: usize, i: usize) -> f32 {
     bits::float_of(word(all, from, i))
 }
 
 // The same, as a count.
-pub(crate) fn count(all: &[u32], from: usize, i: usize) -> usize {
+pub(crate) fn count(all: &Desk, from: usize, i: usize) -> usize {
     wide(word(all, from, i))
 }
 
 // The same, as a bool.
-pub(crate) fn flag(all: &[u32], from: usize, i: usize) -> bool {
+pub(crate) fn flag(all: &Desk, from: usize, i: usize) -> bool {
     word(all, from, i) != 0
 }
 
 // The number of 64 bits whose higher half stands there.
-pub(crate) fn long(all: &[u32], from: usize, i: usize) -> u64 {
+pub(crate) fn long(all: &Desk, from: usize, i: usize) -> u64 {
     let place = wrapping_add_usize(from, i);
     numbers::joined(at(all, place), word(all, place, 1))
 }
 
-fn wide(n: u32) -> usize {
+// A number as a count.
+pub(crate) fn wide(n: u32) -> usize {
     n as usize
 }
 
+// The first three figures of a question.
+pub struct Given {
+    pub first: u32,
+    pub second: u32,
+    pub third: u32,
+}
+
+// Those of the question that lies on the desk.
+pub(crate) fn asked(desk: &Desk) -> Given {
+    Given {
+        first: at(desk, 0),
+        second: at(desk, 1),
+        third: at(desk, 2),
+    }
+}
+
+// The figures of four floats.
+pub struct Four {
+    pub first: u32,
+    pub second: u32,
+    pub third: u32,
+    pub fourth: u32,
+}
+
+// Those of the four in an array.
+pub(crate) fn four_of(some: [f32; 4]) -> Four {
+    Four {
+        first: bits::bits_of(some[0]),
+        second: bits::bits_of(some[1]),
+        third: bits::bits_of(some[2]),
+        fourth: bits::bits_of(some[3]),
+    }
+}
+
 // Stores a figure at a place.
-pub(crate) fn store(all: &mut [u32], place: usize, figure: u32) {
-    if place < all.len() {
+pub(crate) fn store(all: &mut Desk, place: usize, figure: u32) {
+    if place < FIGURES {
         all[place] = figure;
     }
 }
 
 // Stores some figures, from a place on.
-pub(crate) fn put(all: &mut [u32], from: usize, some: &[u32]) {
+pub(crate) fn put(all: &mut Desk, from: usize, some: &[u32]) {
     let mut i = 0;
     while i < some.len() {
         store(all, wrapping_add_usize(from, i), some[i]);
@@ -56,7 +97,7 @@ pub(crate) fn put(all: &mut [u32], from: usize, some: &[u32]) {
 }
 
 // Stores some floats, from a place on.
-pub(crate) fn put_floats(all: &mut [u32], from: usize, some: &[f32]) {
+pub(crate) fn put_floats(all: &mut Desk, from: usize, some: &[f32]) {
     let mut i = 0;
     while i < some.len() {
         store(all, wrapping_add_usize(from, i), bits::bits_of(some[i]));
@@ -66,7 +107,7 @@ pub(crate) fn put_floats(all: &mut [u32], from: usize, some: &[f32]) {
 
 // Stores the figures of a line whose name ends at a place: as many as are asked for, and 0 where the
 // line has no more.
-pub(crate) fn ask(all: &mut [u32], line: &[u8], name: usize, count: usize) {
+pub(crate) fn ask(all: &mut Desk, line: &[u8], name: usize, count: usize) {
     let mut at = wrapping_add_usize(name, 1);
     let mut i: usize = 0;
     while i < count {

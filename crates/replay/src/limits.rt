@@ -11,17 +11,21 @@
 
 use crate::curve;
 use crate::desk::ASKED;
+use crate::desk::Reply;
 use crate::estimator;
 use crate::figures;
+use crate::figures::Desk;
+use crate::figures::Given;
 use crate::numbers;
 use limiter::Limiter;
+use limiter::Next;
 use std::num::wrapping_add_usize;
 use units::replies::DONE;
 
 // Where the figures stand on the desk.
 pub const FROM: usize = 122;
 
-pub const SHOWN: usize = 19;
+const SHOWN: usize = 19;
 
 // Where the level estimator's and the curve's stand behind the carried factor, and the rest behind them.
 const ESTIMATOR: usize = 123;
@@ -44,7 +48,7 @@ const RESET: u32 = 22;
 pub const PROCESS: u32 = 23;
 
 // The limiter whose figures stand at a place.
-pub(crate) fn read(all: &[u32], from: usize) -> Limiter {
+pub(crate) fn read(all: &Desk, from: usize) -> Limiter {
     Limiter {
         estimator: estimator::read(all, wrapping_add_usize(from, 1)),
         curve: curve::read(all, wrapping_add_usize(from, 4)),
@@ -55,74 +59,51 @@ pub(crate) fn read(all: &[u32], from: usize) -> Limiter {
 // The figures that are shown of a limiter behind its state.
 fn rest(limiter: Limiter) -> [u32; 3] {
     let heard = limiter.last_audio_level();
-    let level = heard.level;
     [
         numbers::flag(limiter.passes()),
         heard.reply,
-        bits::bits_of(level.0),
+        bits::bits_of(heard.level.0),
     ]
 }
 
-// Leaves a limiter's figures on the desk, and answers the reply. What is shown of a part behind its
-// state is overwritten by what comes next.
-pub(crate) fn leave(desk: &mut [u32], reply: u32, limiter: Limiter) -> u32 {
-    let estimator = limiter.estimator;
-    let curve = limiter.curve;
+// Leaves a limiter's figures on the desk. What is shown of a part behind its state is overwritten by what
+// comes next.
+pub(crate) fn leave(desk: &mut Desk, limiter: Limiter) {
     let last = rest(limiter);
     figures::store(desk, FROM, bits::bits_of(limiter.carried));
-    estimator::put(desk, ESTIMATOR, estimator);
-    curve::put(desk, CURVE, curve, 0.0);
+    estimator::put(desk, ESTIMATOR, limiter.estimator);
+    curve::put(desk, CURVE, limiter.curve, 0.0);
     figures::put(desk, REST, &last);
-    reply
 }
 
-// limiter.new
-fn new(desk: &mut [u32]) -> u32 {
-    let a = Limiter::new(figures::count(desk, ASKED, 0));
-    let made = a.limiter;
-    leave(desk, a.reply, made)
-}
-
-// limiter.set
-fn set(desk: &mut [u32]) -> u32 {
-    let given = read(desk, ASKED);
-    leave(desk, DONE, given)
-}
-
-// limiter.samples
-fn samples(desk: &mut [u32]) -> u32 {
-    let a = read(desk, FROM).set_samples_per_channel(figures::count(desk, ASKED, 0));
-    let after = a.limiter;
-    leave(desk, a.reply, after)
-}
-
-// limiter.reset
-fn reset(desk: &mut [u32]) -> u32 {
-    let a = read(desk, FROM).reset();
-    let after = a.limiter;
-    leave(desk, a.reply, after)
-}
-
-// limiter.process
-fn process(desk: &mut [u32], frame: &mut [f32]) -> u32 {
-    let channels = figures::count(desk, ASKED, 0);
-    let samples = figures::count(desk, ASKED, 1);
-    let a = read(desk, FROM).process(frame, channels, samples);
-    let after = a.limiter;
-    leave(desk, a.reply, after)
+// The reply to a question about a limiter, and the limiter after it.
+fn next(word: u32, limiter: Limiter, given: Given, frame: &mut [f32]) -> Next {
+    let first = figures::wide(given.first);
+    if word == NEW {
+        Limiter::new(first)
+    } else if word == SAMPLES {
+        limiter.set_samples_per_channel(first)
+    } else if word == RESET {
+        limiter.reset()
+    } else if word == PROCESS {
+        limiter.process(frame, first, figures::wide(given.second))
+    } else {
+        Next {
+            reply: DONE,
+            limiter,
+        }
+    }
 }
 
 // Answers the question that lies on the desk.
-pub(crate) fn answer(word: u32, desk: &mut [u32], frame: &mut [f32]) -> u32 {
-    if word == NEW {
-        new(desk)
-    } else if word == SET {
-        set(desk)
-    } else if word == SAMPLES {
-        samples(desk)
-    } else if word == RESET {
-        reset(desk)
-    } else {
-        process(desk, frame)
+pub(crate) fn answer(word: u32, given: Given, desk: &mut Desk, frame: &mut [f32]) -> Reply {
+    let before = read(desk, numbers::pick(word == SET, ASKED, FROM));
+    let a = next(word, before, given, frame);
+    leave(desk, a.limiter);
+    Reply {
+        number: a.reply,
+        from: FROM,
+        size: SHOWN,
+        told: 0,
     }
 }

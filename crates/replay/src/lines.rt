@@ -5,6 +5,8 @@ ghost use mathlib.Core.Path.{_≡_};
 ghost use Prim.Native.Nat.{_≤_};
 ghost use lib.ListN.{length, take};
 use crate::figures;
+use crate::figures::Desk;
+use crate::numbers;
 use std::num::wrapping_add_u32;
 use std::num::wrapping_add_usize;
 
@@ -55,23 +57,28 @@ pub(crate) fn split(line: &[u8]) -> Asked {
 // The most samples that a frame can have.
 pub const MOST: usize = 3840;
 
-// Whether so many figures are as many as a byte of a list says: a digit, in which a is 10, or a star
-// for a frame, which is two figures and its samples, or a plus for one with six figures more, or a minus
-// for one with five more.
+// How many figures a byte of a list says to stand before a frame's samples: a star two, a plus six more, and
+// a minus five more. Where it says of no frame, 0.
+fn before(byte: u8) -> usize {
+    let few = numbers::pick(byte == b'-', 7, 0);
+    let some = numbers::pick(byte == b'+', 8, few);
+    numbers::pick(byte == b'*', 2, some)
+}
+
+// Whether so many figures are as many as a byte of a list says: a digit, in which a is 10, or those before a
+// frame's samples and then the samples.
 fn is_due(count: usize, byte: u8) -> bool {
-    if byte == b'*' {
-        (2 <= count) & (count <= MOST + 2)
-    } else if byte == b'+' {
-        (8 <= count) & (count <= MOST + 8)
-    } else if byte == b'-' {
-        (7 <= count) & (count <= MOST + 7)
-    } else if count < 10 {
-        48 + count as u8 == byte
-    } else if count < 32 {
-        87 + count as u8 == byte
+    let first = before(byte);
+    if first == 0 {
+        byte_at(b"0123456789abcdefghijklmnopqrstuv", count) == byte
     } else {
-        false
+        (first <= count) & (after(count, first) <= MOST)
     }
+}
+
+// How many of so many figures follow the first few.
+fn after(count: usize, first: usize) -> usize {
+    if count < first { 0 } else { count - first }
 }
 
 // The number of a line's name among the names of a list, which are counted from 0, and each has the byte
@@ -104,11 +111,6 @@ pub(crate) fn number_of(line: &[u8], asked: Asked, list: &[u8]) -> u32 {
     n
 }
 
-// How many of so many figures follow the first few.
-fn after(count: usize, first: usize) -> usize {
-    if count < first { 0 } else { count - first }
-}
-
 // How many of so many figures are a frame's samples: those after the first few, and no more than there
 // is room for.
 pub(crate) fn samples_of(count: usize, first: usize, frame: &[f32]) -> usize
@@ -130,15 +132,20 @@ pub(crate) fn fill(line: &[u8], from: usize, frame: &mut [f32]) {
     }
 }
 
+// How many bytes of answers there is room for, and the room.
+pub const ROOM: usize = 65536;
+
+pub type Out = [u8; 65536];
+
 // Stores a byte at a place.
-fn store(out: &mut [u8], at: usize, byte: u8) {
-    if at < out.len() {
+fn store(out: &mut Out, at: usize, byte: u8) {
+    if at < ROOM {
         out[at] = byte;
     }
 }
 
 // Puts a figure at a place of a buffer, with a space after it, and answers the place after that.
-pub(crate) fn put(out: &mut [u8], at: usize, figure: u32) -> usize {
+pub(crate) fn put(out: &mut Out, at: usize, figure: u32) -> usize {
     words::put(out, at, figure);
     store(out, wrapping_add_usize(at, 8), b' ');
     wrapping_add_usize(at, 9)
@@ -146,9 +153,9 @@ pub(crate) fn put(out: &mut [u8], at: usize, figure: u32) -> usize {
 
 // Puts so many figures, from one of them on, and answers the place after them.
 pub(crate) fn put_figures(
-    out: &mut [u8],
+    out: &mut Out,
     at: usize,
-    all: &[u32],
+    all: &Desk,
     from: usize,
     count: usize,
 ) -> usize {
@@ -162,7 +169,7 @@ pub(crate) fn put_figures(
 }
 
 // Puts each sample of a frame, and answers the place after them.
-pub(crate) fn put_samples(out: &mut [u8], at: usize, frame: &[f32]) -> usize {
+pub(crate) fn put_samples(out: &mut Out, at: usize, frame: &[f32]) -> usize {
     let mut to = at;
     let mut i = 0;
     while i < frame.len() {
@@ -174,7 +181,7 @@ pub(crate) fn put_samples(out: &mut [u8], at: usize, frame: &[f32]) -> usize {
 
 // Ends the answer that stands from one place to another: the last space becomes a line feed. Where
 // there is no answer, a question mark is put.
-pub(crate) fn end(out: &mut [u8], from: usize, to: usize) -> usize {
+pub(crate) fn end(out: &mut Out, from: usize, to: usize) -> usize {
     if from < to {
         store(out, to - 1, b'\n');
         to

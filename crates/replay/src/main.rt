@@ -20,15 +20,17 @@ mod speech;
 mod whole;
 
 ghost use Rattle.io.specs.Counts.{Counts};
+use figures::Desk;
+use lines::Out;
 
 // A line of 3,900 figures with its name. A longer one is no question.
 const LONGEST_LINE: usize = 35200;
 
+// The room for a line.
+type Line = [u8; 35200];
+
 // So many bytes of answers may wait, so that one more answer fits behind them into 65,536 bytes.
 const ENOUGH: usize = 30000;
-
-// The figures of the desk: src/desk.rt. There is room for more parts.
-const FIGURES: usize = 256;
 
 // How far the run is: how many bytes of the line that is being read are kept, how many bytes of
 // answers wait to be written, and whether there may be more to read.
@@ -53,8 +55,8 @@ fn write(out: &[u8], n: usize) {
 
 // Keeps one more byte of a line, where there is room, and answers how many are kept then: a line that
 // fills the room is too long to be a question, whatever follows.
-fn keep(line: &mut [u8], kept: usize, byte: u8) -> usize {
-    if kept < line.len() {
+fn keep(line: &mut Line, kept: usize, byte: u8) -> usize {
+    if kept < LONGEST_LINE {
         line[kept] = byte;
         kept + 1
     } else {
@@ -64,7 +66,7 @@ fn keep(line: &mut [u8], kept: usize, byte: u8) -> usize {
 
 // The place for one more answer, behind those that wait. Where it might not fit there, those that wait
 // are written first.
-fn place(out: &[u8], waiting: usize) -> usize {
+fn place(out: &Out, waiting: usize) -> usize {
     if waiting < ENOUGH {
         waiting
     } else {
@@ -74,7 +76,7 @@ fn place(out: &[u8], waiting: usize) -> usize {
 }
 
 // Answers the line that is kept, behind the answers that wait, and answers how many bytes wait then.
-fn reply(line: &[u8], kept: usize, desk: &mut [u32], out: &mut [u8], waiting: usize) -> usize {
+fn reply(line: &[u8], kept: usize, desk: &mut Desk, out: &mut Out, waiting: usize) -> usize {
     let n = within(kept, line);
     let at = place(out, waiting);
     desk::answer(&line[..n], desk, out, at)
@@ -82,7 +84,7 @@ fn reply(line: &[u8], kept: usize, desk: &mut [u32], out: &mut [u8], waiting: us
 
 // Takes the bytes that were read, one after the other: a line feed ends the line, which is answered,
 // and any other byte is kept. There may be more to read where some came.
-fn feed(input: &[u8], line: &mut [u8], desk: &mut [u32], out: &mut [u8], run: Run) -> Run {
+fn feed(input: &[u8], line: &mut Line, desk: &mut Desk, out: &mut Out, run: Run) -> Run {
     let mut kept = run.kept;
     let mut waiting = run.waiting;
     let mut i = 0;
@@ -104,7 +106,7 @@ fn feed(input: &[u8], line: &mut [u8], desk: &mut [u32], out: &mut [u8], run: Ru
 }
 
 // Reads once, and goes over what came: nothing, at the end of the input and where a read fails.
-fn turn(line: &mut [u8], desk: &mut [u32], out: &mut [u8], run: Run) -> Run {
+fn turn(line: &mut Line, desk: &mut Desk, out: &mut Out, run: Run) -> Run {
     let mut input = io::large_buffer();
     let got = libc::read(libc::STDIN_FILENO, &mut input);
     let n = io::count(got, &input);
@@ -113,7 +115,7 @@ fn turn(line: &mut [u8], desk: &mut [u32], out: &mut [u8], run: Run) -> Run {
 
 // Reads to the end. A proved loop has to end, and nothing says that the input does: so the loop
 // counts its turns down, from a number that no run uses up.
-fn read_all(line: &mut [u8], desk: &mut [u32], out: &mut [u8]) -> Run {
+fn read_all(line: &mut Line, desk: &mut Desk, out: &mut Out) -> Run {
     let mut run = Run {
         kept: 0,
         waiting: 0,
@@ -127,19 +129,16 @@ fn read_all(line: &mut [u8], desk: &mut [u32], out: &mut [u8]) -> Run {
     run
 }
 
-// Writes the answers that still wait. A line that has begun and was cut is no question.
-fn finish(out: &mut [u8], kept: usize, waiting: usize) {
-    if 0 < kept {
-        let last = lines::end(out, waiting, waiting);
-        write(out, last);
-    } else {
-        write(out, waiting);
-    }
+// Writes the answers that still wait. A line that has begun and was cut is no question: the question mark is
+// put behind them in any case, and written where there is such a line.
+fn finish(out: &mut Out, kept: usize, waiting: usize) {
+    let cut = lines::end(out, waiting, waiting);
+    write(out, numbers::pick(0 < kept, cut, waiting));
 }
 
 fn main() {
     let mut line = [0u8; LONGEST_LINE];
-    let mut desk = [0u32; FIGURES];
+    let mut desk = [0u32; figures::FIGURES];
     let mut out = io::large_buffer();
     let run = read_all(&mut line, &mut desk, &mut out);
     finish(&mut out, run.kept, run.waiting);

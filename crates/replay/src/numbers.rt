@@ -6,6 +6,11 @@ pub(crate) fn low(n: u64) -> u32 {
     (n % 4294967296) as u32
 }
 
+// A count as a figure, which has its lower half.
+pub(crate) fn narrow(n: usize) -> u32 {
+    (n % 4294967296) as u32
+}
+
 // The higher half of a number.
 pub(crate) fn high(n: u64) -> u32 {
     (n / 4294967296) as u32

@@ -11,9 +11,14 @@
 // and the time since the last push); whether it passes; and headroom_db (a reply and the headroom).
 
 use crate::desk::ASKED;
+use crate::desk::Reply;
 use crate::figures;
+use crate::figures::Desk;
+use crate::figures::Four;
+use crate::figures::Given;
 use crate::numbers;
 use crate::ring;
+use saturation_protector::Next;
 use saturation_protector::Peaks;
 use saturation_protector::Protector;
 use std::num::wrapping_add_usize;
@@ -24,14 +29,7 @@ use units::replies::DONE;
 // Where the figures stand on the desk.
 pub const FROM: usize = 162;
 
-pub const SHOWN: usize = 25;
-
-// Where the two states stand behind the first four, and the rest behind them.
-const PRELIMINARY: usize = 166;
-
-const RELIABLE: usize = 175;
-
-const REST: usize = 184;
+const SHOWN: usize = 25;
 
 // The words, by their numbers in the list of src/desk.rt.
 pub const FIRST: u32 = 28;
@@ -42,8 +40,10 @@ const SET: u32 = 29;
 
 const ANALYZE: u32 = 30;
 
+const RESET: u32 = 31;
+
 // The state whose figures stand at a place.
-fn peaks(all: &[u32], from: usize) -> Peaks {
+fn peaks(all: &Desk, from: usize) -> Peaks {
     Peaks {
         headroom: figures::float(all, from, 0),
         ring: ring::read(all, wrapping_add_usize(from, 1)),
@@ -53,7 +53,7 @@ fn peaks(all: &[u32], from: usize) -> Peaks {
 }
 
 // The protector whose figures stand at a place.
-pub(crate) fn read(all: &[u32], from: usize) -> Protector {
+pub(crate) fn read(all: &Desk, from: usize) -> Protector {
     Protector {
         initial: figures::float(all, from, 0),
         threshold: figures::word(all, from, 1),
@@ -64,97 +64,100 @@ pub(crate) fn read(all: &[u32], from: usize) -> Protector {
     }
 }
 
-// The figures that are shown of one of the two states.
-fn shown(state: Peaks) -> [u32; 9] {
-    let ring = state.ring;
-    let stored = ring.stored;
-    [
-        bits::bits_of(state.headroom),
-        numbers::low(ring.place as u64),
-        numbers::low(ring.size as u64),
-        bits::bits_of(stored[0]),
-        bits::bits_of(stored[1]),
-        bits::bits_of(stored[2]),
-        bits::bits_of(stored[3]),
-        bits::bits_of(state.largest),
-        state.elapsed,
-    ]
+// The figures of one of the two states.
+struct Written {
+    headroom: u32,
+    place: u32,
+    size: u32,
+    stored: Four,
+    largest: u32,
+    elapsed: u32,
 }
 
-// The figures that are shown of a protector before the two states.
-fn first(protector: Protector) -> [u32; 4] {
+// Those of a state.
+fn of_state(state: Peaks) -> Written {
+    let ring = state.ring;
+    let stored = ring.stored;
+    Written {
+        headroom: bits::bits_of(state.headroom),
+        place: numbers::narrow(ring.place),
+        size: numbers::narrow(ring.size),
+        stored: figures::four_of(stored),
+        largest: bits::bits_of(state.largest),
+        elapsed: state.elapsed,
+    }
+}
+
+// The figures that are shown of a protector.
+fn shown(protector: Protector) -> [u32; 25] {
+    let before = of_state(protector.preliminary);
+    let trusted = of_state(protector.reliable);
+    let told = protector.headroom_db();
     [
         bits::bits_of(protector.initial),
         protector.threshold,
         protector.count,
         bits::bits_of(protector.headroom),
-    ]
-}
-
-// The figures that are shown of a protector behind them.
-fn rest(protector: Protector) -> [u32; 3] {
-    let told = protector.headroom_db();
-    let headroom = told.headroom;
-    [
+        before.headroom,
+        before.place,
+        before.size,
+        before.stored.first,
+        before.stored.second,
+        before.stored.third,
+        before.stored.fourth,
+        before.largest,
+        before.elapsed,
+        trusted.headroom,
+        trusted.place,
+        trusted.size,
+        trusted.stored.first,
+        trusted.stored.second,
+        trusted.stored.third,
+        trusted.stored.fourth,
+        trusted.largest,
+        trusted.elapsed,
         numbers::flag(protector.passes()),
         told.reply,
-        bits::bits_of(headroom.0),
+        bits::bits_of(told.headroom.0),
     ]
 }
 
-// Leaves a protector's figures on the desk, and answers the reply.
-pub(crate) fn leave(desk: &mut [u32], reply: u32, protector: Protector) -> u32 {
-    let start = first(protector);
-    let preliminary = shown(protector.preliminary);
-    let reliable = shown(protector.reliable);
-    let last = rest(protector);
-    figures::put(desk, FROM, &start);
-    figures::put(desk, PRELIMINARY, &preliminary);
-    figures::put(desk, RELIABLE, &reliable);
-    figures::put(desk, REST, &last);
-    reply
+// Leaves a protector's figures on the desk.
+pub(crate) fn leave(desk: &mut Desk, protector: Protector) {
+    let all = shown(protector);
+    figures::put(desk, FROM, &all);
 }
 
-// protector.new
-fn new(desk: &mut [u32]) -> u32 {
-    let initial = figures::float(desk, ASKED, 0);
-    let a = Protector::new(Db(initial), figures::word(desk, ASKED, 1));
-    let made = a.protector;
-    leave(desk, a.reply, made)
-}
-
-// protector.set
-fn set(desk: &mut [u32]) -> u32 {
-    let given = read(desk, ASKED);
-    leave(desk, DONE, given)
-}
-
-// protector.analyze
-fn analyze(desk: &mut [u32]) -> u32 {
-    let probability = figures::float(desk, ASKED, 0);
-    let peak = figures::float(desk, ASKED, 1);
-    let level = figures::float(desk, ASKED, 2);
-    let a = read(desk, FROM).analyze(probability, Dbfs(peak), Dbfs(level));
-    let after = a.protector;
-    leave(desk, a.reply, after)
-}
-
-// protector.reset
-fn reset(desk: &mut [u32]) -> u32 {
-    let a = read(desk, FROM).reset();
-    let after = a.protector;
-    leave(desk, a.reply, after)
+// The reply to a question about a protector, and the protector after it.
+fn next(word: u32, protector: Protector, given: Given) -> Next {
+    let first = bits::float_of(given.first);
+    if word == NEW {
+        Protector::new(Db(first), given.second)
+    } else if word == ANALYZE {
+        protector.analyze(
+            first,
+            Dbfs(bits::float_of(given.second)),
+            Dbfs(bits::float_of(given.third)),
+        )
+    } else if word == RESET {
+        protector.reset()
+    } else {
+        Next {
+            reply: DONE,
+            protector,
+        }
+    }
 }
 
 // Answers the question that lies on the desk.
-pub(crate) fn answer(word: u32, desk: &mut [u32]) -> u32 {
-    if word == NEW {
-        new(desk)
-    } else if word == SET {
-        set(desk)
-    } else if word == ANALYZE {
-        analyze(desk)
-    } else {
-        reset(desk)
+pub(crate) fn answer(word: u32, given: Given, desk: &mut Desk) -> Reply {
+    let before = read(desk, numbers::pick(word == SET, ASKED, FROM));
+    let a = next(word, before, given);
+    leave(desk, a.protector);
+    Reply {
+        number: a.reply,
+        from: FROM,
+        size: SHOWN,
+        told: 0,
     }
 }

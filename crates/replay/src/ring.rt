@@ -12,9 +12,13 @@
 // put aside (a reply and a bool).
 
 use crate::desk::ASKED;
+use crate::desk::Reply;
 use crate::figures;
+use crate::figures::Desk;
+use crate::figures::Given;
 use crate::numbers;
 use saturation_protector_buffer::Front;
+use saturation_protector_buffer::Next;
 use saturation_protector_buffer::Ring;
 use units::kinds::Dbfs;
 use units::replies::DONE;
@@ -22,7 +26,7 @@ use units::replies::DONE;
 // Where the figures stand on the desk, and those of the ring that is put aside.
 pub const FROM: usize = 64;
 
-pub const SHOWN: usize = 15;
+const SHOWN: usize = 15;
 
 const ASIDE: usize = 79;
 
@@ -37,8 +41,10 @@ const PUSH: u32 = 3;
 
 const RESET: u32 = 4;
 
+const KEEP: u32 = 5;
+
 // The ring whose figures stand at a place.
-pub(crate) fn read(all: &[u32], from: usize) -> Ring {
+pub(crate) fn read(all: &Desk, from: usize) -> Ring {
     Ring {
         stored: [
             figures::float(all, from, 2),
@@ -69,77 +75,59 @@ fn case(front: Front) -> u32 {
 
 // The figures that are shown of a ring.
 fn shown(ring: Ring, aside: Ring) -> [u32; 15] {
-    let stored = ring.stored;
+    let peaks = ring.stored;
+    let stored = figures::four_of(peaks);
     let oldest = ring.front();
     let front = oldest.front;
     let size = ring.size();
     let same = ring.equals(aside);
     [
-        numbers::low(ring.place as u64),
-        numbers::low(ring.size as u64),
-        bits::bits_of(stored[0]),
-        bits::bits_of(stored[1]),
-        bits::bits_of(stored[2]),
-        bits::bits_of(stored[3]),
+        numbers::narrow(ring.place),
+        numbers::narrow(ring.size),
+        stored.first,
+        stored.second,
+        stored.third,
+        stored.fourth,
         numbers::flag(ring.passes()),
-        numbers::low(saturation_protector_buffer::capacity() as u64),
+        numbers::narrow(saturation_protector_buffer::capacity()),
         oldest.reply,
         case(front),
         value(front),
         size.reply,
-        numbers::low(size.size as u64),
+        numbers::narrow(size.size),
         same.reply,
         numbers::flag(same.equal),
     ]
 }
 
-// Leaves a ring's figures on the desk, and answers the reply.
-fn leave(desk: &mut [u32], reply: u32, ring: Ring) -> u32 {
-    let aside = read(desk, ASIDE);
-    let all = shown(ring, aside);
-    figures::put(desk, FROM, &all);
-    reply
-}
-
-// ring.set
-fn set(desk: &mut [u32]) -> u32 {
-    let given = read(desk, ASKED);
-    leave(desk, DONE, given)
-}
-
-// ring.push
-fn push(desk: &mut [u32]) -> u32 {
-    let a = read(desk, FROM).push_back(Dbfs(figures::float(desk, ASKED, 0)));
-    let after = a.ring;
-    leave(desk, a.reply, after)
-}
-
-// ring.reset
-fn reset(desk: &mut [u32]) -> u32 {
-    let a = read(desk, FROM).reset();
-    let after = a.ring;
-    leave(desk, a.reply, after)
-}
-
-// ring.keep
-fn keep(desk: &mut [u32]) -> u32 {
-    let ring = read(desk, FROM);
-    let all = shown(ring, ring);
-    figures::put(desk, ASIDE, &all);
-    leave(desk, DONE, ring)
-}
-
-// Answers the question that lies on the desk.
-pub(crate) fn answer(word: u32, desk: &mut [u32]) -> u32 {
+// The reply to a question about a ring, and the ring after it. A question that has a figure has a peak.
+fn next(word: u32, ring: Ring, peak: f32) -> Next {
     if word == NEW {
-        leave(desk, DONE, Ring::new())
-    } else if word == SET {
-        set(desk)
+        Next {
+            reply: DONE,
+            ring: Ring::new(),
+        }
     } else if word == PUSH {
-        push(desk)
+        ring.push_back(Dbfs(peak))
     } else if word == RESET {
-        reset(desk)
+        ring.reset()
     } else {
-        keep(desk)
+        Next { reply: DONE, ring }
+    }
+}
+
+// Answers the question that lies on the desk. A ring that is put aside is shown from there.
+pub(crate) fn answer(word: u32, given: Given, desk: &mut Desk) -> Reply {
+    let before = read(desk, numbers::pick(word == SET, ASKED, FROM));
+    let aside = read(desk, numbers::pick(word == KEEP, FROM, ASIDE));
+    let to = numbers::pick(word == KEEP, ASIDE, FROM);
+    let a = next(word, before, bits::float_of(given.first));
+    let all = shown(a.ring, aside);
+    figures::put(desk, to, &all);
+    Reply {
+        number: a.reply,
+        from: to,
+        size: SHOWN,
+        told: 0,
     }
 }

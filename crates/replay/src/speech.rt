@@ -11,10 +11,14 @@
 // level_dbfs (a reply and the level); and is_confident (a reply and a bool).
 
 use crate::desk::ASKED;
+use crate::desk::Reply;
 use crate::figures;
+use crate::figures::Desk;
+use crate::figures::Given;
 use crate::numbers;
 use speech_level_estimator::Average;
 use speech_level_estimator::Estimator;
+use speech_level_estimator::Next;
 use std::num::wrapping_add_usize;
 use units::kinds::Db;
 use units::kinds::Dbfs;
@@ -24,7 +28,7 @@ use units::settings::Settings;
 // Where the figures stand on the desk.
 pub const FROM: usize = 141;
 
-pub const SHOWN: usize = 21;
+const SHOWN: usize = 21;
 
 // The words, by their numbers in the list of src/desk.rt.
 pub const FIRST: u32 = 24;
@@ -35,8 +39,10 @@ const SET: u32 = 25;
 
 const UPDATE: u32 = 26;
 
+const RESET: u32 = 27;
+
 // The settings whose figures stand at a place.
-pub(crate) fn settings(all: &[u32], from: usize) -> Settings {
+pub(crate) fn settings(all: &Desk, from: usize) -> Settings {
     Settings {
         headroom: Db(figures::float(all, from, 0)),
         largest: Db(figures::float(all, from, 1)),
@@ -47,7 +53,7 @@ pub(crate) fn settings(all: &[u32], from: usize) -> Settings {
 }
 
 // The average whose figures stand at a place.
-fn average(all: &[u32], from: usize) -> Average {
+fn average(all: &Desk, from: usize) -> Average {
     Average {
         left: figures::word(all, from, 0),
         sum: figures::float(all, from, 1),
@@ -56,7 +62,7 @@ fn average(all: &[u32], from: usize) -> Average {
 }
 
 // The estimator whose figures stand at a place.
-pub(crate) fn read(all: &[u32], from: usize) -> Estimator {
+pub(crate) fn read(all: &Desk, from: usize) -> Estimator {
     Estimator {
         settings: settings(all, from),
         threshold: figures::word(all, from, 5),
@@ -71,81 +77,68 @@ pub(crate) fn read(all: &[u32], from: usize) -> Estimator {
 
 // The figures that are shown of an estimator.
 fn shown(estimator: Estimator) -> [u32; 21] {
-    let settings = estimator.settings;
-    let before = estimator.preliminary;
-    let trusted = estimator.reliable;
     let told = estimator.level_dbfs();
-    let level = told.level;
     let sure = estimator.is_confident();
     [
-        bits::bits_of(settings.headroom.0),
-        bits::bits_of(settings.largest.0),
-        bits::bits_of(settings.initial.0),
-        bits::bits_of(settings.change),
-        bits::bits_of(settings.noise.0),
+        bits::bits_of(estimator.settings.headroom.0),
+        bits::bits_of(estimator.settings.largest.0),
+        bits::bits_of(estimator.settings.initial.0),
+        bits::bits_of(estimator.settings.change),
+        bits::bits_of(estimator.settings.noise.0),
         estimator.threshold,
         bits::bits_of(estimator.initial),
-        before.left,
-        bits::bits_of(before.sum),
-        bits::bits_of(before.weight),
-        trusted.left,
-        bits::bits_of(trusted.sum),
-        bits::bits_of(trusted.weight),
+        estimator.preliminary.left,
+        bits::bits_of(estimator.preliminary.sum),
+        bits::bits_of(estimator.preliminary.weight),
+        estimator.reliable.left,
+        bits::bits_of(estimator.reliable.sum),
+        bits::bits_of(estimator.reliable.weight),
         bits::bits_of(estimator.level),
         numbers::flag(estimator.confident),
         estimator.count,
         numbers::flag(estimator.passes()),
         told.reply,
-        bits::bits_of(level.0),
+        bits::bits_of(told.level.0),
         sure.reply,
         numbers::flag(sure.confident),
     ]
 }
 
-// Leaves an estimator's figures on the desk, and answers the reply.
-pub(crate) fn leave(desk: &mut [u32], reply: u32, estimator: Estimator) -> u32 {
+// Leaves an estimator's figures on the desk.
+pub(crate) fn leave(desk: &mut Desk, estimator: Estimator) {
     let all = shown(estimator);
     figures::put(desk, FROM, &all);
-    reply
 }
 
-// speech.new
-fn new(desk: &mut [u32]) -> u32 {
-    let a = Estimator::new(settings(desk, ASKED), figures::word(desk, ASKED, 5));
-    let made = a.estimator;
-    leave(desk, a.reply, made)
-}
-
-// speech.set
-fn set(desk: &mut [u32]) -> u32 {
-    let given = read(desk, ASKED);
-    leave(desk, DONE, given)
-}
-
-// speech.update
-fn update(desk: &mut [u32]) -> u32 {
-    let rms = figures::float(desk, ASKED, 0);
-    let a = read(desk, FROM).update(Dbfs(rms), figures::float(desk, ASKED, 1));
-    let after = a.estimator;
-    leave(desk, a.reply, after)
-}
-
-// speech.reset
-fn reset(desk: &mut [u32]) -> u32 {
-    let a = read(desk, FROM).reset();
-    let after = a.estimator;
-    leave(desk, a.reply, after)
-}
-
-// Answers the question that lies on the desk.
-pub(crate) fn answer(word: u32, desk: &mut [u32]) -> u32 {
+// The reply to a question about an estimator, and the estimator after it. The one that is started afresh has
+// the settings and the threshold of the one that is given.
+fn next(word: u32, estimator: Estimator, given: Given) -> Next {
     if word == NEW {
-        new(desk)
-    } else if word == SET {
-        set(desk)
+        Estimator::new(estimator.settings, estimator.threshold)
     } else if word == UPDATE {
-        update(desk)
+        estimator.update(
+            Dbfs(bits::float_of(given.first)),
+            bits::float_of(given.second),
+        )
+    } else if word == RESET {
+        estimator.reset()
     } else {
-        reset(desk)
+        Next {
+            reply: DONE,
+            estimator,
+        }
+    }
+}
+
+// Answers the question that lies on the desk. The figures of speech.new stand as those of a state do.
+pub(crate) fn answer(word: u32, given: Given, desk: &mut Desk) -> Reply {
+    let before = read(desk, numbers::pick(word <= SET, ASKED, FROM));
+    let a = next(word, before, given);
+    leave(desk, a.estimator);
+    Reply {
+        number: a.reply,
+        from: FROM,
+        size: SHOWN,
+        told: 0,
     }
 }

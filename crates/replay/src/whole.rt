@@ -12,24 +12,27 @@
 
 use crate::controller;
 use crate::desk::ASKED;
-use crate::desk::RESULTS;
+use crate::desk::Reply;
+use crate::desk::TOLD;
 use crate::figures;
+use crate::figures::Desk;
+use crate::figures::Given;
 use crate::limits;
 use crate::numbers;
 use crate::protector;
 use crate::speech;
 use chain::Answer;
 use chain::Chain;
-use std::num::wrapping_add_usize;
+use chain::Made;
+use chain::Next;
 use units::figures::Figures;
 use units::kinds::Dbfs;
 
-// Where the results stand on the desk: whether the chain passes, the case, and what stands in the chain.
-const PASSES: usize = 33;
+// How many results there are.
+const RESULTS: usize = 9;
 
-const CASE: usize = 34;
-
-const STANDING: usize = 38;
+// Where the question has the frame's figures.
+const KNOWN: usize = 2;
 
 // The words, by their numbers in the list of src/desk.rt.
 pub const FIRST: u32 = 35;
@@ -41,7 +44,7 @@ pub const STEP: u32 = 36;
 pub const LAST: u32 = 37;
 
 // A frame's figures, which stand at a place.
-fn metered(all: &[u32], from: usize) -> Figures {
+fn metered(all: &Desk, from: usize) -> Figures {
     Figures {
         probability: figures::float(all, from, 0),
         rms: Dbfs(figures::float(all, from, 1)),
@@ -52,7 +55,7 @@ fn metered(all: &[u32], from: usize) -> Figures {
 }
 
 // The chain whose parts' figures stand on the desk.
-fn read(desk: &[u32]) -> Chain {
+fn read(desk: &Desk) -> Chain {
     Chain {
         estimator: speech::read(desk, speech::FROM),
         protector: protector::read(desk, protector::FROM),
@@ -61,87 +64,96 @@ fn read(desk: &[u32]) -> Chain {
     }
 }
 
-// The case of an answer and its values: the number, how many frames are missing, level and headroom.
-fn case(answer: Answer) -> [u32; 4] {
+// The case of an answer and its values.
+struct Case {
+    number: u32,
+    missing: u32,
+    level: u32,
+    headroom: u32,
+}
+
+// Those of an answer: the number, how many frames are missing, level and headroom, and 0 for what it has not.
+fn case_of(answer: Answer) -> Case {
     match answer {
-        Answer::NonSpeech => [0, 0, 0, 0],
-        Answer::Waiting(missing) => [1, missing, 0, 0],
-        Answer::Publishing(level, headroom) => [
-            2,
-            0,
-            bits::bits_of(level.0),
-            bits::bits_of(headroom.0),
-        ],
+        Answer::NonSpeech => Case {
+            number: 0,
+            missing: 0,
+            level: 0,
+            headroom: 0,
+        },
+        Answer::Waiting(missing) => Case {
+            number: 1,
+            missing,
+            level: 0,
+            headroom: 0,
+        },
+        Answer::Publishing(level, headroom) => Case {
+            number: 2,
+            missing: 0,
+            level: bits::bits_of(level.0),
+            headroom: bits::bits_of(headroom.0),
+        },
     }
 }
 
-// What stands in a chain of what it publishes: level, headroom, whether the level is trusted, and gain.
-fn published(chain: Chain) -> [u32; 4] {
-    let estimator = chain.estimator;
-    let protector = chain.protector;
-    let controller = chain.controller;
+// The results: those of the case, and what stands in the chain.
+fn told(answer: Answer, chain: Chain) -> [u32; 9] {
+    let now = case_of(answer);
     [
-        bits::bits_of(estimator.level),
-        bits::bits_of(protector.headroom),
-        numbers::flag(estimator.confident),
-        bits::bits_of(controller.gain),
+        numbers::flag(chain.passes()),
+        now.number,
+        now.missing,
+        now.level,
+        now.headroom,
+        bits::bits_of(chain.estimator.level),
+        bits::bits_of(chain.protector.headroom),
+        numbers::flag(chain.estimator.confident),
+        bits::bits_of(chain.controller.gain),
     ]
 }
 
-// Leaves what is told of an answer on the desk.
-fn tell(desk: &mut [u32], answer: Answer, chain: Chain) {
-    let first = case(answer);
-    let second = published(chain);
-    figures::store(desk, RESULTS, 9);
-    figures::store(desk, PASSES, numbers::flag(chain.passes()));
-    figures::put(desk, CASE, &first);
-    figures::put(desk, STANDING, &second);
+// Leaves the figures of a chain's parts on the desk.
+fn stand(desk: &mut Desk, chain: Chain) {
+    speech::leave(desk, chain.estimator);
+    protector::leave(desk, chain.protector);
+    controller::leave(desk, chain.controller);
+    limits::leave(desk, chain.limiter);
 }
 
-// Leaves the figures of a chain's parts on the desk, and answers the reply.
-fn stand(desk: &mut [u32], reply: u32, chain: Chain) -> u32 {
-    let estimator = chain.estimator;
-    let protector = chain.protector;
-    let controller = chain.controller;
-    let limiter = chain.limiter;
-    speech::leave(desk, reply, estimator);
-    protector::leave(desk, reply, protector);
-    controller::leave(desk, reply, controller);
-    limits::leave(desk, reply, limiter)
+// What is answered to a chain that is started afresh.
+fn started(a: Made) -> Next {
+    let chain = a.chain;
+    Next {
+        reply: a.reply,
+        answer: Answer::NonSpeech,
+        chain,
+    }
 }
 
-// Leaves a chain on the desk, with what is told of an answer, and answers the reply.
-fn leave(desk: &mut [u32], reply: u32, answer: Answer, chain: Chain) -> u32 {
-    tell(desk, answer, chain);
-    stand(desk, reply, chain)
-}
-
-// chain.new
-fn new(desk: &mut [u32]) -> u32 {
-    let settings = speech::settings(desk, ASKED);
-    let threshold = figures::word(desk, ASKED, 5);
-    let samples = figures::count(desk, ASKED, 6);
-    let a = Chain::new(settings, threshold, samples);
-    let made = a.chain;
-    leave(desk, a.reply, Answer::NonSpeech, made)
-}
-
-// chain.step
-fn step(desk: &mut [u32], frame: &mut [f32]) -> u32 {
-    let channels = figures::count(desk, ASKED, 0);
-    let samples = figures::count(desk, ASKED, 1);
-    let known = metered(desk, wrapping_add_usize(ASKED, 2));
-    let a = read(desk).step(known, frame, channels, samples);
-    let answer = a.answer;
-    let after = a.chain;
-    leave(desk, a.reply, answer, after)
+// The reply to the question that lies on the desk, its answer, and the chain after it.
+fn next(word: u32, given: Given, desk: &Desk, frame: &mut [f32]) -> Next {
+    if word == NEW {
+        let threshold = figures::word(desk, ASKED, 5);
+        let samples = figures::count(desk, ASKED, 6);
+        started(Chain::new(speech::settings(desk, ASKED), threshold, samples))
+    } else {
+        let known = metered(desk, KNOWN);
+        let channels = figures::wide(given.first);
+        read(desk).step(known, frame, channels, figures::wide(given.second))
+    }
 }
 
 // Answers the question that lies on the desk.
-pub(crate) fn answer(word: u32, desk: &mut [u32], frame: &mut [f32]) -> u32 {
-    if word == NEW {
-        new(desk)
-    } else {
-        step(desk, frame)
+pub(crate) fn answer(word: u32, given: Given, desk: &mut Desk, frame: &mut [f32]) -> Reply {
+    let a = next(word, given, desk, frame);
+    let answer = a.answer;
+    let results = told(answer, a.chain);
+    figures::put(desk, TOLD, &results);
+    stand(desk, a.chain);
+    Reply {
+        number: a.reply,
+        from: 0,
+        size: 0,
+        told: RESULTS,
     }
 }

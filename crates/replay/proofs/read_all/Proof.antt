@@ -1,12 +1,10 @@
 -- `replay::read_all` is safe and ends. The measure is the number of turns that are left. Assumes nothing.
-use mathlib.Core.Path.{_≡_}
-use lib.ListN.{length}
 use borrow.Author.Needs.{needs}
 use Rattle.replay.proofs.read_all.Statement.{statement}
 use Rattle.replay.proofs.read_all.Tie as tie
 
 abbrev Inv-loop : tie.InvT-loop
-Inv-loop line₀ desk₀ out₀ run₀ turns₀ line desk out run turns = (length line ≡ length line₀) × (length desk ≡ length desk₀) × (length out ≡ length out₀)
+Inv-loop line₀ desk₀ out₀ run₀ turns₀ line desk out run turns = Unit {0}
 
 abbrev μ-loop : tie.MeasureT-loop
 μ-loop line₀ desk₀ out₀ run₀ turns₀ line desk out run turns = turns
@@ -26,26 +24,8 @@ loop-less c = search needs
 loop-again : tie.Need-loop-again Inv-loop μ-loop
 loop-again c = search needs
 
-same-length : tie.Need-same-length Inv-loop μ-loop
-same-length c = search needs
-
-same-length-2 : tie.Need-same-length-2 Inv-loop μ-loop
-same-length-2 c = search needs
-
-same-length-3 : tie.Need-same-length-3 Inv-loop μ-loop
-same-length-3 c = search needs
-
-same-length-4 : tie.Need-same-length-4 Inv-loop μ-loop
-same-length-4 c = search needs
-
 returns : tie.Need-returns Inv-loop μ-loop
 returns c = search needs
-
-same-length-5 : tie.Need-same-length-5 Inv-loop μ-loop
-same-length-5 c = search needs
-
-same-length-6 : tie.Need-same-length-6 Inv-loop μ-loop
-same-length-6 c = search needs
 
 returns-2 : tie.Need-returns-2 Inv-loop μ-loop
 returns-2 c = search needs
@@ -61,11 +41,5 @@ read-all-spec =
     sub-turns
     loop-less
     loop-again
-    same-length
-    same-length-2
-    same-length-3
     returns
-    same-length-4
-    same-length-5
-    same-length-6
     returns-2)

