@@ -57,8 +57,7 @@ pub struct Next {
     pub chain: Chain,
 }
 
-// What a frame is to the controller and to those after it: the level and the headroom that have heard it, and
-// what the controller is told.
+// What is known of a frame before the gain: the two parts that have heard it, and what the controller is told.
 struct Heard {
     estimator: Estimator,
     protector: Protector,
@@ -113,7 +112,7 @@ fn four(settings: Settings, threshold: u32, samples: usize) -> Chain
     }
 }
 
-// A frame is heard: the level of the speech first, then the headroom by that level; both go into what the
+// Hears a frame: the level of the speech first, then the headroom by that level; both go into what the
 // controller is told.
 fn hear(estimator: Estimator, protector: Protector, figures: Figures) -> Heard
     ensures { λ r. ⌜ r .estimator ≡ Levels.stepped estimator (figures .rms .0) (figures .probability) .estimator ⌝ }

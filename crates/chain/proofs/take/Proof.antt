@@ -1,5 +1,5 @@
 -- `chain::take` meets its contract: the controller decides whether the frame is taken; the other parts refuse nothing that the chain takes. Assumes nothing.
-use mathlib.Core.Path.{_≡_, sym, ap, _∙_}
+use mathlib.Core.Path.{_≡_, sym, ap}
 use Prim.Native.Nat.{ℕ}
 use Rattle.units.specs.Replies.{done}
 use Rattle.chain.specs.Answer.{said}

@@ -90,7 +90,7 @@ module _ (c : Chain) (f : Figures) (frame : List Float) (channels samples : ℕ)
       let shape = isShape channels samples (length frame) && eqb samples (samplesOf c) in
       called-refused (refused-first shape (passes c) (accepted f) (allWithin largestInput frame) (λ (z : early c f (length frame) channels samples ≡ done). n (e ∙ z)) ∙ sym e) n
 
-  -- What comes out of it then.
+  -- So what comes out of it is what came in, and full scale is promised of no refused frame.
   pub refused-all : {r : ℕ} → r ≡ early c f (length frame) channels samples → (r ≡ done → ⊥)
       → (record { reply = r; answer = nonSpeech; chain = c } ≡ called c f frame channels samples .told) × ((frame ≡ called c f frame channels samples .frame) × (r ≡ done → FullScale frame))
   refused-all {r} e n =

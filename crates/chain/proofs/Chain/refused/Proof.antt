@@ -1,3 +1,4 @@
+-- `chain::Chain::refused` meets its contract: it is the first number of the three tests. Assumes nothing.
 use borrow.Author.Needs.{needs}
 use Rattle.chain.proofs.Chain.refused.Statement.{statement}
 use Rattle.chain.proofs.Chain.refused.Tie as tie
