@@ -23,6 +23,7 @@ multiplied-split = beside-splits multiplied (λ (gain x : Float). mul binary32 x
     none : (gains : List Float) → multiplied gains [] ≡ []
     none [] = refl
     none (gain ∷ gains) = refl
+
     bare : (xs : List Float) → multiplied [] xs ≡ xs
     bare [] = refl
     bare (x ∷ xs) = refl

@@ -14,6 +14,7 @@ limited-split =
     none : (fs : List Float) → limited fs [] ≡ []
     none [] = refl
     none (f ∷ fs) = refl
+
     bare : (xs : List Float) → limited [] xs ≡ xs
     bare [] = refl
     bare (x ∷ xs) = refl
