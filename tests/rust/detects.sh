@@ -4,11 +4,18 @@
 cd "$(dirname "$0")/../.." || exit 1
 . tests/check.bash
 
-# The oracle's exit status where what the program answers goes through a filter first.
-through() { # PART FILTER
-    target/oracle/oracle compare --only "$1" --short -- bash -c "tests/run-program replay | $2" >/dev/null 2>&1
+room=$(mktemp -d)
+trap 'rm -rf "$room"' EXIT
+
+# The oracle's exit status where a command answers a part's questions.
+compared() { # PART COMMAND
+    target/oracle/oracle compare --only "$1" --short -- bash -c "$2" >/dev/null 2>&1
     echo $?
 }
+# The same where the program answers, which leaves its answers in a file; and where these go through a filter first. A part's
+# questions are the same in each run, so the program is asked once.
+answered() { compared "$1" "tests/run-program replay | tee '$room/$1'"; } # PART
+through() { compared "$1" "cat >/dev/null; { $2; } <'$room/$1'"; }        # PART FILTER
 
 # Alters the digit at a place of the first answer after a line that has more than so many characters.
 digit() { # PLACE LINE LONGER
@@ -18,7 +25,8 @@ digit() { # PLACE LINE LONGER
 for part in ratio ring curve estimator applier limiter speech protector controller chain; do
     refusal=2
     case $part in estimator | limiter) refusal=3 ;; esac
-    same "$part: the comparison finds nothing where nothing is altered" 0 "$(through "$part" cat)"
+    same "$part: the comparison finds nothing where nothing is altered" 0 "$(answered "$part")"
+    same "$part: nor in the same answers again" 0 "$(through "$part" cat)"
     same "$part: it finds one digit that is altered" 1 "$(through "$part" "$(digit 16 700 10)")"
     same "$part: it finds a refusal that is altered" 1 "$(through "$part" "sed '0,/^0000000$refusal /s/^0000000$refusal /00000000 /'")"
     same "$part: it finds an answer that is missing at the end" 1 "$(through "$part" "sed '\$d'")"
@@ -56,10 +64,10 @@ same "chain: it finds a gain that is altered" 1 "$(through chain "$(figure 9 400
 same "chain: it finds a sample that is altered in its last place" 1 "$(through chain "$(figure 36 400 400)")"
 same "the comparison finds that nothing is answered" 1 "$(through ratio 'cat >/dev/null')"
 same "the comparison finds that the program fails" 1 "$(through ratio 'cat; exit 3')"
-same "the comparison finds that the program takes no question" 1 "$(through curve 'true')"
+same "the comparison finds that the program takes no question" 1 "$(compared curve 'true')"
 same "the comparison finds a count that is altered" 1 "$(through curve "sed '9000s/^\(.\{26\}\)\(.\)/\1f/'")"
 same "the comparison finds a stored peak that is altered" 1 "$(through ring "sed '9000s/^\(.\{60\}\)...../\1fffff/'")"
-same "a part that there is not is refused" 2 "$(through nothing cat)"
+same "a part that there is not is refused" 2 "$(compared nothing cat)"
 
 # Whole strips: the oracle's own lines go through a filter first, in place of the program's.
 strips() { # FILTER
@@ -79,8 +87,6 @@ same "strips: it finds that nothing is printed" 1 "$(strips 'cat >/dev/null')"
 same "strips: it finds that the program fails" 1 "$(strips 'cat; exit 3')"
 
 # A source that is not the one that the oracle was written for is refused, and not compiled as it is.
-room=$(mktemp -d)
-trap 'rm -rf "$room"' EXIT
 prepared() { target/oracle/prepare "$room/source" oracle/src/rules.rs "$room/out" >/dev/null 2>&1; echo $?; }
 source=${SONORA_SRC:-../shared/docs/src/crates/sonora-agc2/src}
 mkdir "$room/source"
