@@ -1,9 +1,9 @@
 -- What each call of the chain answers, refusals first. Definitions only.
-use mathlib.Core.Bool.{true, _&&_, cond}
+use mathlib.Core.Bool.{true, false, _&&_, cond}
 use mathlib.Core.List.{List}
 use Prim.Native.Nat.{ℕ}
 use lib.Dec.{eqb}
-use lib.Ieee.{Float}
+use lib.Ieee.{Float, binary32, ofBits}
 use Rattle.units.specs.Replies.{done, refusal}
 use Rattle.units.specs.Settings as Settings
 use Rattle.units.specs.declared.settings.Settings.{Settings as Set}
@@ -22,11 +22,14 @@ use Rattle.gain_applier.specs.Applier as Applying
 use Rattle.limiter.specs.Limiter as Limiting
 use Rattle.chain.specs.Answer.{Said, said, nonSpeech, answerOf}
 use Rattle.units.specs.Figures.{accepted}
-use Rattle.chain.specs.Chain.{initial, passes, samplesOf}
+use Rattle.chain.specs.Chain.{initial, passes, samplesOf, published}
 use Rattle.chain.specs.declared.Chain.{Chain}
 use Rattle.units.specs.declared.figures.Figures.{Figures}
 use Rattle.chain.specs.declared.Made.{Made}
 use Rattle.chain.specs.declared.Next.{Next}
+use Rattle.chain.specs.declared.Published.{Published}
+use Rattle.chain.specs.declared.Reading.{Reading}
+use Rattle.chain.specs.declared.SamplesRead.{SamplesRead}
 
 -- ---- a new chain
 unfoldable pub fresh : Set → ℕ → ℕ → Chain
@@ -114,3 +117,17 @@ called c f frame channels samples =
       told = record { reply = reply; answer = cond (eqb reply done) (next .answer) nonSpeech; chain = cond (eqb reply done) (next .chain) c };
       frame = cond (eqb reply done) (next .frame) frame;
     }
+
+-- ---- what a chain tells of itself, where it passes: otherwise 4, and "any other result 0, false"
+abbrev pub nothingPublished : Published
+nothingPublished =
+    let zero = ofBits binary32 0x0000_0000 in
+    record { level = record { 0 = zero }; headroom = record { 0 = zero }; gain = record { 0 = zero }; confident = false }
+
+unfoldable pub publishedTold : Chain → Reading
+unfolding refusal passes
+publishedTold c = record { reply = refusal true (passes c) true true; published = cond (passes c) (published c) nothingPublished }
+
+unfoldable pub samplesTold : Chain → SamplesRead
+unfolding refusal passes
+samplesTold c = record { reply = refusal true (passes c) true true; samples = cond (passes c) (samplesOf c) 0 }

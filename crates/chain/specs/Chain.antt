@@ -9,6 +9,7 @@ use Rattle.saturation_protector.specs.Protector as Headroom
 use Rattle.adaptive_digital_gain_controller.specs.Controller as Gain
 use Rattle.limiter.specs.Limiter as Limiting
 use Rattle.chain.specs.declared.Chain.{Chain}
+use Rattle.chain.specs.declared.Published.{Published}
 
 -- "initial headroom 20"
 abbrev pub initial : Float
@@ -39,3 +40,13 @@ passes c =
 -- the samples that a chain was set to
 abbrev pub samplesOf : Chain → ℕ
 samplesOf c = c .limiter .estimator .samples
+
+-- "every published level, headroom, confidence, gain": what a chain publishes
+abbrev pub published : Chain → Published
+published c =
+    record {
+      level = record { 0 = c .estimator .level };
+      headroom = record { 0 = c .protector .headroom };
+      gain = record { 0 = c .controller .gain };
+      confident = c .estimator .confident;
+    }

@@ -9,7 +9,7 @@ ghost use Rattle.saturation_protector.specs.Calls as Headrooms;
 ghost use Rattle.limiter.specs.Scale.{FullScale};
 ghost use Rattle.chain.specs.Chain.{alike, passes};
 ghost use Rattle.chain.specs.Answer.{answerOf, said};
-ghost use Rattle.chain.specs.Calls.{informed, made, told, called};
+ghost use Rattle.chain.specs.Calls.{informed, made, told, called, samplesTold, publishedTold};
 ghost use Rattle.chain.specs.Laws.Calls.{early};
 ghost use Rattle.chain.specs.Laws.Start.{four};
 use adaptive_digital_gain_controller::Controller;
@@ -55,6 +55,26 @@ pub struct Next {
     pub reply: u32,
     pub answer: Answer,
     pub chain: Chain,
+}
+
+// What a chain publishes: the level of the speech, the headroom, the gain, and whether the level is trusted.
+pub struct Published {
+    pub level: Dbfs,
+    pub headroom: Db,
+    pub gain: Db,
+    pub confident: bool,
+}
+
+// A reply's number, and what the chain publishes: all 0 and false where it is refused.
+pub struct Reading {
+    pub reply: u32,
+    pub published: Published,
+}
+
+// A reply's number, and the samples of a channel that the chain was made for: 0 where it is refused.
+pub struct SamplesRead {
+    pub reply: u32,
+    pub samples: usize,
 }
 
 // What is known of a frame before the gain: the two parts that have heard it, and what the controller is told.
@@ -229,6 +249,38 @@ impl Chain {
             & (estimator.threshold == controller.threshold)
             & are_alike(mine, theirs)
             & (protector.initial == INITIAL)
+    }
+
+    // What a chain publishes. A state that fails its test is refused with 4.
+    pub fn published(self) -> Reading
+        ensures { λ r. ⌜ r ≡ publishedTold self ⌝ }
+    {
+        let ok = self.passes();
+        let estimator = self.estimator;
+        let protector = self.protector;
+        let controller = self.controller;
+        Reading {
+            reply: refusal(true, ok, true, true),
+            published: Published {
+                level: Dbfs(floats::pick_f32(ok, estimator.level, 0.0)),
+                headroom: Db(floats::pick_f32(ok, protector.headroom, 0.0)),
+                gain: Db(floats::pick_f32(ok, controller.gain, 0.0)),
+                confident: ok & estimator.confident,
+            },
+        }
+    }
+
+    // The samples of a channel that the chain was made for. A state that fails its test is refused with 4.
+    pub fn samples(self) -> SamplesRead
+        ensures { λ r. ⌜ r ≡ samplesTold self ⌝ }
+    {
+        let ok = self.passes();
+        let limiter = self.limiter;
+        let estimator = limiter.estimator;
+        SamplesRead {
+            reply: refusal(true, ok, true, true),
+            samples: floats::pick_usize(ok, estimator.samples, 0),
+        }
     }
 
     // What a frame is refused with before its samples are looked at, or nothing.
