@@ -58,9 +58,10 @@ handed c p r l h g = rw (l, h, g, r, p) (one-by-one c _ (passes c))
 
 returns : tie.Need-returns
 returns c =
-    let told = c .before .before .before in
-    handed _ (told .before .before .before .before .before .passes .ensures) (told .refusal .ensures) (c .before .before .pick-f32 .ensures) (c .before .pick-f322 .ensures)
-    (c .pick-f323 .ensures)
+    let picked = c .before .before .before in
+    let told = picked .before in
+    handed _ (told .before .before .before .before .passes .ensures) (told .refusal .ensures) (picked .pick-f32 .ensures) (c .before .before .pick-f322 .ensures)
+    (c .before .pick-f323 .ensures)
 
 pub published-spec : {M : Type 1} → statement M
 published-spec =
