@@ -107,6 +107,14 @@ abbrev pub said : Found → Said
 said None = saidOf []
 said (Record f) = saidOf (figures f ∷ [])
 
+-- the same as records
+abbrev pub entriesFound : Found → List Entry
+entriesFound None = []
+entriesFound (Record f) = figures f ∷ []
+
+unfoldable pub readOf : RecordRead → Read
+readOf r = record { reply = r .reply; found = entriesFound (r .found) }
+
 -- what an answer says: the reply's number, and what was found
 pub record Told : Type 0 where
   pub reply : ℕ

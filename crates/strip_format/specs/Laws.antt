@@ -9,4 +9,5 @@ pub mod Refusals
 pub mod Gaps
 pub mod Prefix
 pub mod Whole
+pub mod Answers
 pub mod Outcome

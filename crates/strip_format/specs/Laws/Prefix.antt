@@ -1,7 +1,7 @@
 -- A head or a record that is settled by the first bytes of a strip stays so, whatever bytes follow: what reading in pieces rests on. Laws.
 -- Assumes nothing.
 use mathlib.Core.Path.{_≡_, refl, sym, ap, _∙_}
-use mathlib.Core.Bool.{Bool, true, false, cond}
+use mathlib.Core.Bool.{Bool, true, false, _&&_, cond}
 use mathlib.Core.List.{List, [], _∷_, _++_}
 use Prim.Native.Nat.{ℕ, zero, suc, _+_, _*_, _≤_, _<_}
 use mathlib.Core.Logic.{_⊎_, inl, inr}
@@ -9,16 +9,20 @@ use native.Mathlib.Omega.{arith}
 use borrow.Author.Tests.{leb-true, leb-false, ltb-true, ltb-false, eqb-true, eqb-false, le-leb, lt-leb, eq-eqb, ne-eqb, lt-ltb}
 use lib.Dec.{eqb, leb, ltb}
 use lib.ListN.{length, getD, length-append, List·getD-append}
-use Rattle.units.specs.Replies.{done, cut, badLength, badVersion}
+use Rattle.units.specs.Replies.{done, cut, badLength, badVersion, refusal}
+use Rattle.units.specs.Figures as Figure
+use Rattle.units.specs.Settings as Settings
 use Rattle.units.specs.declared.figures.Figures.{Figures}
+use Rattle.frames.specs.Shape.{isSamples}
 use Rattle.strip_format.specs.Fields.{size, numberAt, fieldsAt}
 use Rattle.strip_format.specs.Format.{Version, headFields, headLength, headOf, recordFields, recordLength, figuresOf, Entry, figures, gap, entrySize}
-use Rattle.strip_format.specs.Calls.{Read, refusedHead, judgedHead, readHead, refusedRecord, ended, found, judgedRecord, isGap, readRecord, saidOf}
+use Rattle.strip_format.specs.Calls.{Read, isThreshold, headRefusal, recordRefusal, refusedHead, judgedHead, readHead, refusedRecord, ended, found, judgedRecord, isGap, readRecord, saidOf}
 use Rattle.strip_format.specs.Laws.Steps.{HeadThere, RecordThere}
 use Rattle.strip_format.specs.Laws.Heads.{head-stood}
 use Rattle.strip_format.specs.Laws.Records.{stood}
 use Rattle.strip_format.specs.Laws.Gaps.{gap-whole, gap-says}
-use Rattle.strip_format.specs.Laws.Refusals.{head-wrong-length, head-other-version, head-judged, record-none, record-gap, record-wrong-length, record-judged}
+use Rattle.strip_format.specs.Laws.Refusals.{head-wrong-length, head-other-version, head-judged, record-none, record-gap, record-wrong-length, record-judged, judged-head-reply, judged-record-reply}
+use Rattle.strip_format.specs.declared.Head.{Head}
 use Rattle.strip_format.specs.declared.HeadRead.{HeadRead}
 
 -- ---- numbers and fields that lie within the first bytes
@@ -203,3 +207,53 @@ head-ends v xs b held h = go (leb (size (headFields v)) (length xs)) refl
     go true l =
         let same : readHead v (xs ++ (b ∷ [])) .reply ≡ readHead v xs .reply = ap (λ (r : HeadRead). r .reply) (whole-within v xs (b ∷ []) (head-again v xs (b ∷ []) (leb-true (size (headFields v)) (length xs) l) there)) in
         absurd (omega (arith, sym h ∙ same ∙ held))
+
+-- ---- what is cut is not there whole
+never-cut : (shape setting figure sample : Bool) → refusal shape setting figure sample ≡ cut → ⊥
+unfolding refusal
+never-cut true true true true e = omega arith
+never-cut true true true false e = omega arith
+never-cut true true false sample e = omega arith
+never-cut true false figure sample e = omega arith
+never-cut false setting figure sample e = omega arith
+
+figures-never-cut : (f : Figures) → recordRefusal f ≡ cut → ⊥
+unfolding recordRefusal
+figures-never-cut f e = never-cut true true (Figure.accepted f) true e
+
+numbers-never-cut : (v : Version) (h : Head) → headRefusal v h ≡ cut → ⊥
+unfolding headRefusal
+numbers-never-cut v h e = never-cut (isSamples (h .samples)) (Settings.accepted (h .settings) && isThreshold v (h .threshold)) true true e
+
+pub record-cut-short : (v : Version) (xs : List ℕ) → readRecord v xs 0 .reply ≡ cut → length xs < size recordFields
+unfolding refusedRecord found
+record-cut-short v xs e = go (leb (0 + size recordFields) (length xs)) refl
+  where
+    whole : 0 + size recordFields ≤ length xs → (g : Bool) → isGap v (numberAt xs 0 2) ≡ g → (c : Bool) → eqb (numberAt xs 0 2) recordLength ≡ c → ⊥
+    whole l true q c r = omega (arith, sym e ∙ ap (λ (x : Read). x .reply) (record-gap v xs 0 (omega arith) q))
+    whole l false q false r =
+        omega (arith, sym e ∙ ap (λ (x : Read). x .reply) (record-wrong-length v xs 0 (omega arith) q (eqb-false (numberAt xs 0 2) recordLength r)))
+    whole l false q true r =
+        let t : RecordThere xs 0 = record { says = eqb-true (numberAt xs 0 2) recordLength r; whole = l } in
+        figures-never-cut (figuresOf (fieldsAt recordFields xs 0)) (sym (judged-record-reply (figuresOf (fieldsAt recordFields xs 0))) ∙ sym (ap (λ (x : Read). x .reply) (record-judged v xs 0 t)) ∙ e)
+
+    go : (d : Bool) → leb (0 + size recordFields) (length xs) ≡ d → length xs < size recordFields
+    go false s = omega (arith, leb-false (0 + size recordFields) (length xs) s)
+    go true s = absurd (whole (leb-true (0 + size recordFields) (length xs) s) (isGap v (numberAt xs 0 2)) refl (eqb (numberAt xs 0 2) recordLength) refl)
+
+pub head-cut-short : (v : Version) (xs : List ℕ) → readHead v xs .reply ≡ cut → length xs < size (headFields v)
+unfolding refusedHead
+head-cut-short v xs e = go (leb (size (headFields v)) (length xs)) refl
+  where
+    whole : size (headFields v) ≤ length xs → (b : Bool) → eqb (numberAt xs 2 1) (v .number) ≡ b → (c : Bool) → eqb (numberAt xs 0 2) (headLength v) ≡ c → ⊥
+    whole l false q c r =
+        omega (arith, sym e ∙ ap (λ (x : HeadRead). x .reply) (head-other-version v xs (omega arith) (eqb-false (numberAt xs 2 1) (v .number) q)))
+    whole l true q false r =
+        omega (arith, sym e ∙ ap (λ (x : HeadRead). x .reply) (head-wrong-length v xs (omega arith) (eqb-true (numberAt xs 2 1) (v .number) q) (eqb-false (numberAt xs 0 2) (headLength v) r)))
+    whole l true q true r =
+        let t : HeadThere v xs = record { version = eqb-true (numberAt xs 2 1) (v .number) q; says = eqb-true (numberAt xs 0 2) (headLength v) r; whole = l } in
+        numbers-never-cut v (headOf (fieldsAt (headFields v) xs 0)) (sym (judged-head-reply v (headOf (fieldsAt (headFields v) xs 0))) ∙ sym (ap (λ (x : HeadRead). x .reply) (head-judged v xs t)) ∙ e)
+
+    go : (d : Bool) → leb (size (headFields v)) (length xs) ≡ d → length xs < size (headFields v)
+    go false s = omega (arith, leb-false (size (headFields v)) (length xs) s)
+    go true s = absurd (whole (leb-true (size (headFields v)) (length xs) s) (eqb (numberAt xs 2 1) (v .number)) refl (eqb (numberAt xs 0 2) (headLength v)) refl)
