@@ -3,3 +3,4 @@ pub mod Spelling
 pub mod Cutting
 pub mod Putting
 pub mod Ends
+pub mod Lengths

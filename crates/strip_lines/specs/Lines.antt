@@ -53,6 +53,10 @@ abbrev pub flag : Bool → ℕ
 flag b = cond b (digit 1) (digit 0)
 
 -- ---- lines
+-- no line is longer: four numbers of at most 20 digits, three signs and eight single characters fit
+abbrev pub longest : ℕ
+longest = 96
+
 -- "for each record, single spaces between fields, a newline after each line ..: number from 1, kind, level, headroom, gain in dB .., confident 0 or 1"
 unfoldable pub recordLine : ℕ → Said → Float → Float → Float → Bool → List ℕ
 unfolding decimal kind figure

@@ -19,9 +19,9 @@ use units::replies::DONE;
 use units::replies::ROOM;
 use units::replies::refusal;
 
-// A line is made from its end to its front in so many bytes: four numbers of at most 20 digits, two signs
-// and eight single characters fit.
-const LONGEST: usize = 96;
+// No line is longer. A line is made from its end to its front in so many bytes: four numbers of at most 20 digits,
+// three signs and eight single characters fit.
+pub const LONGEST: usize = 96;
 
 // A reply's number, and how many bytes the line has: 0 where it is refused.
 pub struct Line {

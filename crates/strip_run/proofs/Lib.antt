@@ -1,2 +1,2 @@
--- What the proofs of this crate share.
-mod Answers
+-- What the proofs of the functions share.
+pub mod Printed

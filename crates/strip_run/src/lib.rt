@@ -1,47 +1,75 @@
-// A strip run through a new chain over silent one-channel frames, record by record, each with its line.
+// A strip run through a new chain over silent one-channel frames, block by block, with the lines that it prints.
 
 ghost use mathlib.Core.Path.{_≡_};
-ghost use Prim.Native.Nat.{_≤_};
-ghost use lib.ListN.{length, take};
-ghost use Rattle.chain.specs.Chain.{samplesOf};
+ghost use Prim.Native.Nat.{_/_, _<_, _≤_};
+ghost use lib.ListN.{length, take, drop};
+ghost use mathlib.Core.List.{_++_};
 ghost use Rattle.chain.specs.Calls.{told, called};
 ghost use Rattle.strip_format.specs.Format.{one};
-ghost use Rattle.strip_run.specs.Run.{silence, refusedAt, answered, framed, turned, begun, turnOf, outOf};
+ghost use Rattle.strip_lines.specs.Lines.{longest};
+ghost use Rattle.strip_reader.specs.Reader.{handed};
+ghost use Rattle.strip_run.specs.Lines.{atStart, refusedAt, begun, silence, published, answered, framed, shown};
+ghost use Rattle.strip_run.specs.Lines as Printed;
+ghost use Rattle.strip_run.specs.Run.{new, ran, ended, takenOf, outOf, lineOf, lineOut};
 use chain::Chain;
 use chain::Next;
-use strip_format::Found;
-use strip_format::read_head;
-use strip_format::read_record;
+use std::num::wrapping_add_u64;
+use strip_format::Head;
+use strip_lines::LONGEST;
 use strip_lines::record_line;
 use strip_lines::refusal_line;
+use strip_reader::Got;
+use strip_reader::Reader;
 use units::figures::Figures;
-use units::kinds::Db;
-use units::kinds::Dbfs;
 use units::replies::DONE;
+use units::replies::ROOM;
+use units::settings::Settings;
 
 // The largest number of samples that a channel has.
 const SAMPLES: usize = 480;
 
-// What a head or a record came to: a reply's number, the chain that goes on, how many bytes the line has,
-// and whether the run goes on. Where the line is refused, the chain is the one that came in.
-pub struct Turn {
-    pub reply: u32,
+// The chain, the number of what comes next, 0 for the head, and whether the run goes on.
+pub struct Desk {
     pub chain: Chain,
-    pub length: usize,
+    pub number: u64,
     pub more: bool,
 }
 
+// How far a run is: the reader of the strip, and the desk.
+pub struct Run {
+    pub reader: Reader,
+    pub desk: Desk,
+}
+
+// The desk that goes on, and how many bytes its line has.
+struct Line {
+    desk: Desk,
+    length: usize,
+}
+
+// A reply's number, the run that goes on, and how many bytes of lines were put: the run that came in and none, where
+// the buffer is refused.
+pub struct Taken {
+    pub reply: u32,
+    pub run: Run,
+    pub length: usize,
+}
+
 // Ends a run with the line of a refusal.
-fn refuse(chain: Chain, number: u64, refused: u32, out: &mut [u8]) -> Turn
-    ensures { λ r. ⌜ r ≡ turnOf chain (refusedAt chain number refused) (now (out .entry)) ⌝ }
-    ensures { λ _. ⌜ now (out .exit) ≡ outOf (refusedAt chain number refused) (now (out .entry)) ⌝ }
+fn refuse(desk: Desk, reply: u32, out: &mut [u8]) -> Line
+    requires { ⌜ longest ≤ length (now out) ⌝ }
+    ensures { λ r. ⌜ r ≡ lineOf (refusedAt desk reply) ⌝ }
+    ensures { λ _. ⌜ now (out .exit) ≡ lineOut (refusedAt desk reply) (now (out .entry)) ⌝ }
 {
-    let line = refusal_line(number, refused, out);
-    Turn {
-        reply: line.reply,
-        chain,
+    let line = refusal_line(desk.number, reply, out);
+    let chain = desk.chain;
+    Line {
+        desk: Desk {
+            chain,
+            number: desk.number,
+            more: false,
+        },
         length: line.length,
-        more: false,
     }
 }
 
@@ -62,109 +90,222 @@ fn frame_length(samples: usize) -> usize
 }
 
 // Has the chain take a silent frame of one channel with its figures.
-fn step_silently(chain: Chain, figures: Figures) -> Next
-    ensures { λ r. ⌜ told r ≡ called chain figures (silence (samplesOf chain)) 1 (samplesOf chain) .told ⌝ }
+fn step_silently(chain: Chain, figures: Figures, samples: usize) -> Next
+    ensures { λ r. ⌜ told r ≡ called chain figures (silence samples) 1 samples .told ⌝ }
 {
-    let limiter = chain.limiter;
-    let inside = limiter.estimator;
-    let samples = inside.samples;
     let mut frame = silent();
     let n = frame_length(samples);
     chain.step(figures, &mut frame[..n], 1, samples)
 }
 
-// Puts the line of what a step told of a record.
-fn show(chain: Chain, number: u64, next: Next, out: &mut [u8]) -> Turn
-    ensures { λ r. ⌜ r ≡ turnOf chain (answered chain number (told next)) (now (out .entry)) ⌝ }
-    ensures { λ _. ⌜ now (out .exit) ≡ outOf (answered chain number (told next)) (now (out .entry)) ⌝ }
+// Puts the line of what the chain publishes after an accepted step.
+fn publish(desk: Desk, next: Next, out: &mut [u8]) -> Line
+    requires { ⌜ longest ≤ length (now out) ⌝ }
+    ensures { λ r. ⌜ r ≡ lineOf (published desk (told next)) ⌝ }
+    ensures { λ _. ⌜ now (out .exit) ≡ lineOut (published desk (told next)) (now (out .entry)) ⌝ }
 {
-    if next.reply == DONE {
-        let after = next.chain;
-        let answer = next.answer;
-        let estimator = after.estimator;
-        let protector = after.protector;
-        let controller = after.controller;
+    let chain = next.chain;
+    let answer = next.answer;
+    let read = chain.published();
+    if read.reply == DONE {
+        let shown = read.published;
         let line = record_line(
-            number,
+            desk.number,
             answer,
-            Dbfs(estimator.level),
-            Db(protector.headroom),
-            Db(controller.gain),
-            estimator.confident,
+            shown.level,
+            shown.headroom,
+            shown.gain,
+            shown.confident,
             out,
         );
         if line.reply == DONE {
-            Turn {
-                reply: DONE,
-                chain: after,
+            Line {
+                desk: Desk {
+                    chain,
+                    number: wrapping_add_u64(desk.number, 1),
+                    more: true,
+                },
                 length: line.length,
-                more: true,
             }
         } else {
-            Turn {
-                reply: line.reply,
-                chain,
-                length: 0,
-                more: false,
-            }
+            refuse(desk, line.reply, out)
         }
     } else {
-        refuse(chain, number, next.reply, out)
+        refuse(desk, read.reply, out)
     }
 }
 
 // Takes a silent frame with its figures, and puts its line.
-fn take_figures(chain: Chain, number: u64, figures: Figures, out: &mut [u8]) -> Turn
-    ensures { λ r. ⌜ r ≡ turnOf chain (framed chain number figures) (now (out .entry)) ⌝ }
-    ensures { λ _. ⌜ now (out .exit) ≡ outOf (framed chain number figures) (now (out .entry)) ⌝ }
+fn take_figures(desk: Desk, figures: Figures, out: &mut [u8]) -> Line
+    requires { ⌜ longest ≤ length (now out) ⌝ }
+    ensures { λ r. ⌜ r ≡ lineOf (framed desk figures) ⌝ }
+    ensures { λ _. ⌜ now (out .exit) ≡ lineOut (framed desk figures) (now (out .entry)) ⌝ }
 {
-    let next = step_silently(chain, figures);
-    show(chain, number, next, out)
-}
-
-// Begins a run with a strip's head: a new chain with its settings, and no line; or the line of a refusal,
-// which ends the run.
-pub fn begin(strip: &[u8], out: &mut [u8]) -> Turn
-    ensures { λ r. ⌜ r ≡ turnOf (begun one (now (strip .entry)) .chain) (begun one (now (strip .entry))) (now (out .entry)) ⌝ }
-    ensures { λ _. ⌜ now (out .exit) ≡ outOf (begun one (now (strip .entry))) (now (out .entry)) ⌝ }
-{
-    let read = read_head(strip);
-    let head = read.head;
-    let settings = head.settings;
-    let made = Chain::new(settings, head.threshold, head.samples);
-    let chain = made.chain;
+    let chain = desk.chain;
+    let read = chain.samples();
     if read.reply == DONE {
-        Turn {
-            reply: DONE,
-            chain,
-            length: 0,
-            more: true,
+        let next = step_silently(chain, figures, read.samples);
+        if next.reply == DONE {
+            publish(desk, next, out)
+        } else {
+            refuse(desk, next.reply, out)
         }
     } else {
-        refuse(chain, 0, read.reply, out)
+        refuse(desk, read.reply, out)
     }
 }
 
-// Goes on with the record at a place: a silent frame with its figures, and its line; the line of a refusal,
-// which ends the run; or nothing, at the strip's end. Where the line does not fit it is refused with 8, and
-// nothing changes.
-pub fn proceed(chain: Chain, number: u64, strip: &[u8], at: usize, out: &mut [u8]) -> Turn
-    ensures { λ r. ⌜ r ≡ turnOf chain (turned chain number (now (strip .entry)) at) (now (out .entry)) ⌝ }
-    ensures { λ _. ⌜ now (out .exit) ≡ outOf (turned chain number (now (strip .entry)) at) (now (out .entry)) ⌝ }
+// Begins with a head: a new chain with its settings, and no line.
+fn begin(desk: Desk, head: Head, out: &mut [u8]) -> Line
+    requires { ⌜ longest ≤ length (now out) ⌝ }
+    ensures { λ r. ⌜ r ≡ lineOf (begun desk head) ⌝ }
+    ensures { λ _. ⌜ now (out .exit) ≡ lineOut (begun desk head) (now (out .entry)) ⌝ }
 {
-    let read = read_record(strip, at);
-    let found = read.found;
-    if read.reply == DONE {
-        match found {
-            Found::None => Turn {
-                reply: DONE,
+    let settings = head.settings;
+    let made = Chain::new(settings, head.threshold, head.samples);
+    if made.reply == DONE {
+        let chain = made.chain;
+        Line {
+            desk: Desk {
                 chain,
-                length: 0,
-                more: false,
+                number: wrapping_add_u64(desk.number, 1),
+                more: true,
             },
-            Found::Record(figures) => take_figures(chain, number, figures, out),
+            length: 0,
         }
     } else {
-        refuse(chain, number, read.reply, out)
+        refuse(desk, made.reply, out)
+    }
+}
+
+// Puts the line of what the strip hands out, where there is one.
+fn show(desk: Desk, got: Got, out: &mut [u8]) -> Line
+    requires { ⌜ longest ≤ length (now out) ⌝ }
+    ensures { λ r. ⌜ r ≡ lineOf (shown desk (handed got)) ⌝ }
+    ensures { λ _. ⌜ now (out .exit) ≡ lineOut (shown desk (handed got)) (now (out .entry)) ⌝ }
+{
+    match got {
+        Got::More => Line { desk, length: 0 },
+        Got::Head(head) => begin(desk, head, out),
+        Got::Record(figures) => take_figures(desk, figures, out),
+        Got::End => {
+            let chain = desk.chain;
+            Line {
+                desk: Desk {
+                    chain,
+                    number: desk.number,
+                    more: false,
+                },
+                length: 0,
+            }
+        }
+        Got::Refused(reply) => refuse(desk, reply, out),
+    }
+}
+
+// The same while the run goes on; once it has ended nothing is printed.
+fn tell(desk: Desk, got: Got, out: &mut [u8]) -> Line
+    requires { ⌜ longest ≤ length (now out) ⌝ }
+    ensures { λ r. ⌜ r ≡ lineOf (Printed.told desk (handed got)) ⌝ }
+    ensures { λ _. ⌜ now (out .exit) ≡ lineOut (Printed.told desk (handed got)) (now (out .entry)) ⌝ }
+{
+    if desk.more {
+        show(desk, got, out)
+    } else {
+        Line { desk, length: 0 }
+    }
+}
+
+// Takes the bytes of a block, one after the other. There is room for a line for each of them.
+fn take_bytes(run: Run, block: &[u8], out: &mut [u8]) -> Taken
+    requires { ⌜ length (now block) < length (now out) / longest ⌝ }
+    ensures { λ r. ⌜ r ≡ record { reply = 0; run = ran one run (now (block .entry)) .run; length = length (ran one run (now (block .entry)) .lines) } ⌝ }
+    ensures { λ _. ⌜ now (out .exit) ≡ ran one run (now (block .entry)) .lines ++ drop (length (ran one run (now (block .entry)) .lines)) (now (out .entry)) ⌝ }
+{
+    let mut reader = run.reader;
+    let mut desk = run.desk;
+    let mut length = 0;
+    let mut i = 0;
+    while i < block.len() {
+        let step = reader.take(block[i]);
+        let got = step.got;
+        let line = tell(desk, got, &mut out[length..]);
+        reader = step.reader;
+        desk = line.desk;
+        length += line.length;
+        i += 1;
+    }
+    Taken {
+        reply: DONE,
+        run: Run { reader, desk },
+        length,
+    }
+}
+
+// Ends the run with the strip.
+fn finish(run: Run, out: &mut [u8]) -> Taken
+    requires { ⌜ longest ≤ length (now out) ⌝ }
+    ensures { λ r. ⌜ r ≡ record { reply = 0; run = ended run .run; length = length (ended run .lines) } ⌝ }
+    ensures { λ _. ⌜ now (out .exit) ≡ ended run .lines ++ drop (length (ended run .lines)) (now (out .entry)) ⌝ }
+{
+    let reader = run.reader;
+    let desk = run.desk;
+    let got = reader.finish();
+    let line = tell(desk, got, out);
+    let last = line.desk;
+    let chain = last.chain;
+    Taken {
+        reply: DONE,
+        run: Run {
+            reader,
+            desk: Desk {
+                chain,
+                number: last.number,
+                more: false,
+            },
+        },
+        length: line.length,
+    }
+}
+
+impl Run {
+    // A run that has seen no byte of its strip.
+    pub fn new() -> Run
+        ensures { λ r. ⌜ r ≡ new ⌝ }
+    {
+        // There is no chain yet: one that is refused is all 0.
+        let made = Chain::new(Settings::unset(), 0, 0);
+        let chain = made.chain;
+        Run {
+            reader: Reader::new(),
+            desk: Desk {
+                chain,
+                number: 0,
+                more: true,
+            },
+        }
+    }
+
+    // Takes the next block of the strip, of any length, and puts the lines of what is whole with it to the start of a
+    // lent buffer; an empty block is the strip's end. Where the buffer cannot hold LONGEST bytes for each byte of the
+    // block and once more, it is refused with 8, and nothing changes.
+    pub fn take(self, block: &[u8], out: &mut [u8]) -> Taken
+        ensures { λ r. ⌜ r ≡ takenOf one self (now (block .entry)) (length (now (out .entry))) ⌝ }
+        ensures { λ _. ⌜ now (out .exit) ≡ outOf one self (now (block .entry)) (now (out .entry)) ⌝ }
+    {
+        let space = out.len();
+        if block.len() < space / LONGEST {
+            if block.len() == 0 {
+                finish(self, out)
+            } else {
+                take_bytes(self, block, out)
+            }
+        } else {
+            Taken {
+                reply: ROOM,
+                run: self,
+                length: 0,
+            }
+        }
     }
 }

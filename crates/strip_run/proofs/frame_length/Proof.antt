@@ -6,7 +6,7 @@ use lib.ListN.{take, replicate, length}
 use lib.Seq.{take-all}
 use lib.Ieee.{Float, binary32, ofBits}
 use mathlib.Core.List.{List}
-use Rattle.strip_run.specs.Run.{silence}
+use Rattle.strip_run.specs.Lines.{silence}
 use Rattle.strip_run.proofs.frame_length.Statement.{statement}
 use Rattle.strip_run.proofs.frame_length.Tie as tie
 

@@ -1,59 +1,91 @@
--- `strip_run::show` meets its contract. Assumes nothing.
-use mathlib.Core.Path.{_≡_, subst}
+-- `strip_run::show` meets its contract: case by case. Assumes nothing.
+use mathlib.Core.Path.{_≡_, refl, sym, ap}
+use mathlib.Core.List.{List}
+use Prim.Native.Nat.{ℕ}
 use borrow.Author.Needs.{needs}
-use Rattle.chain.specs.Calls.{told}
-use Rattle.strip_lines.specs.Calls.{putRecordLine}
-use Rattle.strip_run.specs.Run.{Turned, shown}
-use Rattle.strip_run.proofs.Answers.{Answers, shown-done, shown-refused, answered-refused}
+use Rattle.strip_reader.specs.Reader.{handed}
+use Rattle.strip_reader.specs.declared.Got.{Got}
+use Rattle.strip_run.specs.Lines.{shown}
+use Rattle.strip_run.specs.declared.Desk.{Desk}
+use Rattle.strip_run.specs.declared.Line.{Line}
+use Rattle.strip_run.proofs.Printed.{Prints, moved}
 use Rattle.strip_run.proofs.show.Statement.{statement}
 use Rattle.strip_run.proofs.show.Tie as tie
 
-record-line-requires : tie.Need-record-line-requires
-record-line-requires c κs = search needs
+enum-told : tie.Need-enum-told
+enum-told c = search needs
+
+enum-known-got : tie.Need-enum-known-got
+enum-known-got c = search needs
+
+begin-requires : tie.Need-begin-requires
+begin-requires c κs = c .before .before .before .before .before .pre
+
+enum-known-got-2 : tie.Need-enum-known-got-2
+enum-known-got-2 c = search needs
+
+take-figures-requires : tie.Need-take-figures-requires
+take-figures-requires c κs = c .before .before .before .before .before .pre
+
+enum-told-2 : tie.Need-enum-told-2
+enum-told-2 c = search needs
+
+enum-known-got-3 : tie.Need-enum-known-got-3
+enum-known-got-3 c = search needs
 
 refuse-requires : tie.Need-refuse-requires
-refuse-requires c κs = search needs
+refuse-requires c κs = c .before .before .before .before .before .pre
+
+-- what a case prints, what was handed out prints
+of-case : (d : Desk) (g h : Got) (out : List ℕ) (line : Line) (end : List ℕ) → g ≡ h → Prints (shown d (handed h)) out line end → Prints (shown d (handed g)) out line end
+of-case d g h out line end e p = moved (shown d (handed h)) (shown d (handed g)) out line end (ap (λ (x : Got). shown d (handed x)) (sym e)) p
+
+returns : tie.Need-returns
+unfolding shown handed
+returns c = of-case (c .before .before .before .args .desk) _ _ (c .before .before .before .args .out .now) _ _ (c .enum-told .given .1) (refl, refl)
 
 same-length : tie.Need-same-length
 same-length c = search needs
 
-returns : tie.Need-returns
-unfolding told shown putRecordLine
-returns c =
-    let a = c .before .before .before .before .before .before .before .before .before .before .before .before .before .args in
-    let line = c .before .before .before .before .record-line in
-    shown-done (a .chain) (a .number) (told (a .next)) (a .out .now) _ (line .result) (c .before .before .before .before .before .before .before .before .before .before .if1 .taken) (line .ensures .0) (line .ensures .1) (c .if2 .taken)
+returns-2 : tie.Need-returns-2
+unfolding shown handed
+returns-2 c = of-case (c .before .before .before .before .before .before .before .before .args .desk) _ _ (c .before .before .before .before .before .before .before .before .args .out .now) _ _ (c .before .before .before .before .before .got .given .1) (c .before .before .begin .ensures .0, c .before .before .begin .ensures .1)
 
 same-length-2 : tie.Need-same-length-2
 same-length-2 c = search needs
 
-returns-2 : tie.Need-returns-2
-unfolding told shown putRecordLine
-returns-2 c =
-    let a = c .before .before .before .before .before .before .before .before .before .before .before .before .before .args in
-    let line = c .before .before .before .before .record-line in
-    shown-refused (a .chain) (a .number) (told (a .next)) (a .out .now) _ (line .result) (c .before .before .before .before .before .before .before .before .before .before .if1 .taken) (line .ensures .0) (line .ensures .1) (c .if2 .left)
+returns-3 : tie.Need-returns-3
+unfolding shown handed
+returns-3 c = of-case (c .before .before .before .before .before .before .before .before .args .desk) _ _ (c .before .before .before .before .before .before .before .before .args .out .now) _ _ (c .before .before .before .before .before .got2 .given .1) (c .before .before .take-figures .ensures .0, c .before .before .take-figures .ensures .1)
+
+returns-4 : tie.Need-returns-4
+unfolding shown handed
+returns-4 c = of-case (c .before .before .before .before .args .desk) _ _ (c .before .before .before .before .args .out .now) _ _ (c .before .enum-told2 .given .1) (refl, refl)
 
 same-length-3 : tie.Need-same-length-3
 same-length-3 c = search needs
 
-returns-3 : tie.Need-returns-3
-unfolding told
-returns-3 c =
-    let a = c .before .before .before .before .before .before .before .args in
-    let refused = c .before .before .refuse in
-    subst (λ (t : Turned). Answers (a .chain) t (a .out .now) (refused .result) (refused .last .1 .1 .1 .0))
-    (answered-refused (a .chain) (a .number) (told (a .next)) (c .before .before .before .before .if1 .left)) (refused .ensures .0, refused .ensures .1)
+returns-5 : tie.Need-returns-5
+unfolding shown handed
+returns-5 c = of-case (c .before .before .before .before .before .before .before .before .args .desk) _ _ (c .before .before .before .before .before .before .before .before .args .out .now) _ _ (c .before .before .before .before .before .got3 .given .1) (c .before .before .refuse .ensures .0, c .before .before .refuse .ensures .1)
 
 pub show-spec : {M : Type 1} → statement M
 show-spec =
     tie.close
     (tie.spec
-    record-line-requires
+    enum-told
+    enum-known-got
+    begin-requires
+    enum-known-got-2
+    take-figures-requires
+    enum-told-2
+    enum-known-got-3
     refuse-requires
-    same-length
     returns
-    same-length-2
+    same-length
     returns-2
+    same-length-2
+    returns-3
+    returns-4
     same-length-3
-    returns-3)
+    returns-5)

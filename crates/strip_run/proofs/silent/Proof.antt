@@ -1,6 +1,6 @@
 -- `strip_run::silent` meets its contract. Assumes nothing.
 use mathlib.Core.Path.{refl}
-use Rattle.strip_run.specs.Run.{silence}
+use Rattle.strip_run.specs.Lines.{silence}
 use Rattle.strip_run.proofs.silent.Statement.{statement}
 use Rattle.strip_run.proofs.silent.Tie as tie
 

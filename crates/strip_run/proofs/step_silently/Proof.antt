@@ -6,9 +6,8 @@ use lib.ListN.{take}
 use lib.Seq.{length-take-le}
 use lib.Ieee.{Float}
 use borrow.Author.Needs.{needs}
-use Rattle.chain.specs.Chain.{samplesOf}
 use Rattle.chain.specs.Calls.{called}
-use Rattle.strip_run.specs.Run.{silence}
+use Rattle.strip_run.specs.Lines.{silence}
 use Rattle.strip_run.proofs.step_silently.Statement.{statement}
 use Rattle.strip_run.proofs.step_silently.Tie as tie
 
@@ -32,12 +31,12 @@ step-requires c κs = search needs
 
 returns : tie.Need-returns
 returns c =
-    let a = c .before .before .before .before .before .before .before .args in
+    let a = c .before .before .before .before .before .args in
     let step = c .before .step in
     let n = c .before .before .before .frame-length in
     let silent = c .before .before .before .before .silent in
     step .ensures .0
-    ∙ ap (λ (frame : List Float). called (a .chain) (a .figures) frame 1 (samplesOf (a .chain)) .told)
+    ∙ ap (λ (frame : List Float). called (a .chain) (a .figures) frame 1 (a .samples) .told)
     (ap (λ (xs : List Float). take (n .result) xs) (silent .ensures .1) ∙ n .ensures .1)
 
 pub step-silently-spec : {M : Type 1} → statement M

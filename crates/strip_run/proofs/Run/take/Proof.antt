@@ -1,0 +1,87 @@
+-- `strip_run::Run::take` meets its contract. Assumes nothing.
+use mathlib.Core.Path.{_≡_, refl, sym, ap, _∙_}
+use mathlib.Core.List.{List, [], _∷_, _++_}
+use Prim.Native.Nat.{ℕ, _/_, _≤_, _<_}
+use native.Mathlib.Omega.{arith}
+use borrow.Author.Needs.{needs}
+use borrow.Author.Tests.{lt-ltb, le-ltb}
+use lib.ListN.{length, drop}
+use Rattle.strip_format.specs.Format.{one}
+use Rattle.strip_lines.specs.Lines.{longest}
+use Rattle.strip_run.specs.Run.{Ran, ran, ended, taken, takenOf, outOf}
+use Rattle.strip_run.specs.declared.Run.{Run}
+use Rattle.strip_run.specs.declared.Taken.{Taken}
+use Rattle.strip_run.proofs.Run.take.Statement.{statement}
+use Rattle.strip_run.proofs.Run.take.Tie as tie
+
+-- some lines have room where their number is below how many have
+some-room : (n m : ℕ) → n < m / longest → longest ≤ m
+some-room n m h = omega arith
+
+finish-requires : tie.Need-finish-requires
+finish-requires c κs = some-room _ _ (c .before .before .if1 .taken)
+
+take-bytes-requires : tie.Need-take-bytes-requires
+take-bytes-requires c κs = c .before .before .if1 .taken
+
+same-length : tie.Need-same-length
+same-length c = search needs
+
+-- an empty block, and one that is not
+at-end : (r : Run) (block : List ℕ) → length block ≡ 0 → taken one r block ≡ ended r
+unfolding taken
+at-end r [] h = refl
+at-end r (b ∷ bs) h = absurd (omega arith)
+
+in-bytes : (r : Run) (block : List ℕ) → (length block ≡ 0 → ⊥) → taken one r block ≡ ran one r block
+unfolding taken
+in-bytes r [] h = absurd (h refl)
+in-bytes r (b ∷ bs) h = refl
+
+-- the answer of a block that has room
+answer-is : (r : Run) (block out : List ℕ) {x : Ran} {answer : Taken} {end : List ℕ} → length block < length out / longest → taken one r block ≡ x
+    → answer ≡ record { reply = 0; run = x .run; length = length (x .lines) } → end ≡ x .lines ++ drop (length (x .lines)) out
+    → (answer ≡ takenOf one r block (length out)) × (end ≡ outOf one r block out)
+unfolding takenOf outOf
+answer-is r block out l e p q = (p ∙ rw (lt-ltb (length block) (length out / longest) l, e), q ∙ rw (lt-ltb (length block) (length out / longest) l, e))
+
+returns : tie.Need-returns
+returns c =
+    let a = c .before .before .before .before .before .before .before .before .args in
+    let last = c .before .before .finish in
+    answer-is (a .self) (a .block .now) (a .out .now) (c .before .before .before .before .before .if1 .taken) (at-end (a .self) (a .block .now) (c .before .before .before .before .if2 .taken))
+    (last .ensures .0) (last .ensures .1)
+
+same-length-2 : tie.Need-same-length-2
+same-length-2 c = search needs
+
+returns-2 : tie.Need-returns-2
+returns-2 c =
+    let a = c .before .before .before .before .before .before .before .before .args in
+    let last = c .before .before .take-bytes in
+    let few = c .before .before .before .before .before .if1 .taken in
+    let some = c .before .before .before .before .if2 .left in
+    answer-is (a .self) (a .block .now) (a .out .now) few (in-bytes (a .self) (a .block .now) some) (last .ensures .0) (last .ensures .1)
+
+-- a buffer without room
+no-room : (r : Run) (block out : List ℕ) → length out / longest ≤ length block
+    → (record { reply = 8; run = r; length = 0 } ≡ takenOf one r block (length out)) × (out ≡ outOf one r block out)
+unfolding takenOf outOf
+no-room r block out l = (rw (le-ltb (length block) (length out / longest) l), rw (le-ltb (length block) (length out / longest) l))
+
+returns-3 : tie.Need-returns-3
+returns-3 c =
+    let a = c .before .before .before .args in
+    no-room (a .self) (a .block .now) (a .out .now) (c .if1 .left)
+
+pub take-spec : {M : Type 1} → statement M
+take-spec =
+    tie.close
+    (tie.spec
+    finish-requires
+    take-bytes-requires
+    same-length
+    returns
+    same-length-2
+    returns-2
+    returns-3)

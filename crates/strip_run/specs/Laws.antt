@@ -1,0 +1,3 @@
+-- What is true of the definitions beside this file.
+pub mod Room
+pub mod Cutting

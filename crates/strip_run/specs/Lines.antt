@@ -1,0 +1,119 @@
+-- A strip run through a new chain, and the lines that it prints. Definitions only.
+use mathlib.Core.Bool.{Bool, true, false, cond}
+use mathlib.Core.List.{List, [], _∷_, _++_}
+use Prim.Native.Nat.{ℕ, _+_, _%_, _^_}
+use lib.Dec.{eqb}
+use lib.ListN.{take, replicate}
+use lib.Ieee.{Float, binary32, ofBits}
+use Rattle.units.specs.Replies.{done, badLength}
+use Rattle.units.specs.Settings.{unset}
+use Rattle.units.specs.declared.figures.Figures.{Figures}
+use Rattle.chain.specs.Calls.{Told, called, made, publishedTold, samplesTold}
+use Rattle.chain.specs.declared.Made.{Made}
+use Rattle.chain.specs.declared.Published.{Published}
+use Rattle.chain.specs.declared.Reading.{Reading}
+use Rattle.chain.specs.declared.SamplesRead.{SamplesRead}
+use Rattle.strip_format.specs.Format.{Version, Entry, figures, gap}
+use Rattle.strip_format.specs.Whole.{readStrip}
+use Rattle.strip_format.specs.declared.Head.{Head}
+use Rattle.strip_lines.specs.Lines.{recordLine, refusalLine}
+use Rattle.strip_lines.specs.Calls.{recordRefusal}
+use Rattle.strip_reader.specs.Reader.{Handed, more, head, entry, end, refused}
+use Rattle.strip_reader.specs.Feeding.{handedBy}
+use Rattle.strip_run.specs.declared.Desk.{Desk}
+
+-- ---- the desk: a chain, the number of what comes next, and whether the run goes on
+-- before the head, whose number is 0, there is no chain yet: all its fields are 0
+unfoldable pub atStart : Desk
+unfolding made unset
+atStart = record { chain = made unset 0 0 .chain; number = 0; more = true }
+
+-- "number from 1": the number after another. It has 64 bits, and would roll over to 0
+abbrev pub after : ℕ → ℕ
+after number = (number + 1) % 2 ^ 64
+
+-- a desk, and the line that it prints: none, or one
+pub record Shown : Type 0 where
+  pub desk : Desk
+  pub line : List ℕ
+
+-- nothing is printed
+abbrev pub unchanged : Desk → Shown
+unchanged d = record { desk = d; line = [] }
+
+-- "A refusal prints its record's number (0 for the head), R and the reply's number, and ends the run."
+unfoldable pub refusedAt : Desk → ℕ → Shown
+unfolding refusalLine
+refusedAt d reply = record { desk = record { chain = d .chain; number = d .number; more = false }; line = refusalLine (d .number) reply }
+
+-- ---- the head: "runs a new chain"
+unfoldable pub begunWith : Desk → Made → Shown
+unfolding refusedAt
+begunWith d m = cond (eqb (m .reply) done) (unchanged (record { chain = m .chain; number = after (d .number); more = true })) (refusedAt d (m .reply))
+
+unfoldable pub begun : Desk → Head → Shown
+unfolding begunWith made
+begun d h = begunWith d (made (h .settings) (h .threshold) (h .samples))
+
+-- ---- a record
+-- "silent one-channel frames": n silent samples, of which a channel has at most 480
+unfoldable pub silence : ℕ → List Float
+silence n = take n (replicate 480 (ofBits binary32 0x0000_0000))
+
+-- "prints for each record ..: number from 1, kind, level, headroom, gain in dB .., confident": what stands after the frame
+unfoldable pub lined : Desk → Told → Published → Shown
+unfolding recordRefusal recordLine refusedAt
+lined d told p =
+    let refused = recordRefusal (p .level .0) (p .headroom .0) (p .gain .0) in
+    cond (eqb refused done)
+    (record {
+      desk = record { chain = told .chain; number = after (d .number); more = true };
+      line = recordLine (d .number) (told .answer) (p .level .0) (p .headroom .0) (p .gain .0) (p .confident);
+    })
+    (refusedAt d refused)
+
+unfoldable pub publishedWith : Desk → Told → Reading → Shown
+unfolding lined refusedAt
+publishedWith d told read = cond (eqb (read .reply) done) (lined d told (read .published)) (refusedAt d (read .reply))
+
+unfoldable pub published : Desk → Told → Shown
+unfolding publishedWith publishedTold
+published d told = publishedWith d told (publishedTold (told .chain))
+
+-- the line by what the step told
+unfoldable pub answered : Desk → Told → Shown
+unfolding published refusedAt
+answered d told = cond (eqb (told .reply) done) (published d told) (refusedAt d (told .reply))
+
+unfoldable pub framedWith : Desk → Figures → SamplesRead → Shown
+unfolding called silence answered refusedAt
+framedWith d f read = cond (eqb (read .reply) done) (answered d (called (d .chain) f (silence (read .samples)) 1 (read .samples) .told)) (refusedAt d (read .reply))
+
+unfoldable pub framed : Desk → Figures → Shown
+unfolding framedWith samplesTold
+framed d f = framedWith d f (samplesTold (d .chain))
+
+-- ---- what a strip hands out, one after the other; once the run has ended nothing is printed
+unfoldable pub shown : Desk → Handed → Shown
+unfolding begun framed refusedAt
+shown d more = unchanged d
+shown d (head h) = begun d h
+shown d (entry (figures f)) = framed d f
+-- no version that is read has gaps: a record of length 0 is refused with 6
+shown d (entry gap) = refusedAt d badLength
+shown d end = unchanged (record { chain = d .chain; number = d .number; more = false })
+shown d (refused reply) = refusedAt d reply
+
+unfoldable pub told : Desk → Handed → Shown
+unfolding shown
+told d h = cond (d .more) (shown d h) (unchanged d)
+
+unfoldable pub linesOf : Desk → List Handed → List ℕ
+unfolding told
+linesOf d [] = []
+linesOf d (h ∷ hs) = told d h .line ++ linesOf (told d h .desk) hs
+
+-- "The program `strip` reads one .., runs a new chain over silent one-channel frames, and prints for each record ..": the lines of a whole strip
+unfoldable pub lines : Version → List ℕ → List ℕ
+unfolding linesOf atStart handedBy readStrip
+lines v strip = linesOf atStart (handedBy (readStrip v strip))
