@@ -1,11 +1,12 @@
 -- Document 01's envelope, over lists: the peaks, the raising and the smoothing. Definitions only.
 use mathlib.Core.Bool.{cond}
-use mathlib.Core.List.{List, [], _∷_}
+use mathlib.Core.List.{List, [], _∷_, map}
 use Prim.Native.Nat.{ℕ, zero, suc}
 use lib.ListN.{take, drop, replicate}
 use lib.Ieee.{Float, binary32, ofBits, add, mul, lt}
 use Rattle.floats.specs.Choice.{larger}
 use Rattle.floats.specs.Kinds.{magnitude}
+use Rattle.units.specs.declared.kinds.LinearS16.{LinearS16}
 
 -- before any sample: twenty times 0
 abbrev pub silence : List Float
@@ -42,3 +43,12 @@ unfoldable pub smoothed : Float → List Float → List Float
 unfolding decayed
 smoothed state [] = []
 smoothed state (value ∷ values) = decayed state value ∷ smoothed (decayed state value) values
+
+-- ---- the kind
+-- "a linear S16 level .. keep[s] a kind of [its] own": levels as they are handed out, each of that kind
+unfoldable pub linear : List Float → List LinearS16
+linear = map (λ (x : Float). record { 0 = x })
+
+-- the numbers of such levels
+unfoldable pub plain : List LinearS16 → List Float
+plain = map (λ (x : LinearS16). x .0)

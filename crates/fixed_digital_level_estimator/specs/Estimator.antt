@@ -10,7 +10,7 @@ use Rattle.units.specs.Replies.{done, refusal}
 use Rattle.frames.specs.Shape.{isSamples}
 use Rattle.frames.specs.Samples.{largestLevel}
 use Rattle.frames.specs.Refusal.{frameRefusal}
-use Rattle.fixed_digital_level_estimator.specs.Envelope.{silence, peaksOver, raised, smoothed}
+use Rattle.fixed_digital_level_estimator.specs.Envelope.{silence, peaksOver, raised, smoothed, linear}
 use Rattle.fixed_digital_level_estimator.specs.declared.Estimator.{Estimator}
 use Rattle.fixed_digital_level_estimator.specs.declared.Next.{Next}
 use Rattle.fixed_digital_level_estimator.specs.declared.Levels.{Levels}
@@ -45,14 +45,14 @@ heardUpTo e envelope = record { level = getD envelope 19 (e .level); samples = e
 
 -- "1: .. or samples not those the level estimator .. was set to"
 unfoldable pub computed : Estimator → List Float → ℕ → ℕ → Levels
-unfolding frameRefusal passes envelopeOf heardUpTo
+unfolding frameRefusal passes envelopeOf heardUpTo linear
 computed e frame channels samples =
     let reply = frameRefusal frame channels samples (eqb samples (e .samples)) (passes e) true largestLevel in
     let envelope = envelopeOf e channels frame in
     record {
       reply = reply;
       estimator = cond (eqb reply done) (heardUpTo e envelope) e;
-      envelope = cond (eqb reply done) envelope silence;
+      envelope = linear (cond (eqb reply done) envelope silence);
     }
 
 -- other samples: the level stays

@@ -1,5 +1,6 @@
 -- What is true of the definitions beside this file.
 pub mod Lengths
+pub mod Kinds
 pub mod Accepted
 pub mod Range
 pub mod Lanes

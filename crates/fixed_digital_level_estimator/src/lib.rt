@@ -8,7 +8,7 @@ ghost use Prim.Native.Nat.{_*_, _≤_, _+_, _%_};
 ghost use lib.ListN.{length, drop};
 ghost use Rattle.frames.specs.Samples.{largestLevel, allWithin};
 ghost use Rattle.fixed_digital_level_estimator.specs.Lanes.{Raised, column, peak};
-ghost use Rattle.fixed_digital_level_estimator.specs.Envelope.{peaksOver, raised, smoothed, silence, decayed};
+ghost use Rattle.fixed_digital_level_estimator.specs.Envelope.{peaksOver, raised, smoothed, silence, decayed, linear};
 ghost use Rattle.fixed_digital_level_estimator.specs.Estimator.{passes, made, computed, changed, cleared, heard};
 use units::kinds::LinearS16;
 
@@ -38,7 +38,7 @@ pub struct Next {
 pub struct Levels {
     pub reply: u32,
     pub estimator: Estimator,
-    pub envelope: [f32; 20],
+    pub envelope: [LinearS16; 20],
 }
 
 // A reply's number, and a level: 0 where it is refused.
@@ -267,15 +267,15 @@ fn follow(last: f32, value: f32) -> f32
 }
 
 // The envelope that follows the values from a level on.
-fn smooth(level: f32, found: [f32; 20]) -> [f32; 20]
-    ensures { λ r. ⌜ r ≡ smoothed level found ⌝ }
+fn smooth(level: f32, found: [f32; 20]) -> [LinearS16; 20]
+    ensures { λ r. ⌜ r ≡ linear (smoothed level found) ⌝ }
 {
-    let mut out = found;
+    let mut out = [LinearS16(0.0); 20];
     let mut last = level;
     let mut k = 0;
     while k < 20 {
-        let value = follow(last, out[k]);
-        out[k] = value;
+        let value = follow(last, found[k]);
+        out[k] = LinearS16(value);
         last = value;
         k += 1;
     }
@@ -325,7 +325,7 @@ impl Estimator {
             let reply = units::replies::refusal(true, true, true, found.tame);
             if found.tame {
                 let envelope = smooth(level, raise(peaks));
-                let last = envelope[19];
+                let last = envelope[19].0;
                 Levels {
                     reply,
                     estimator: Estimator {
@@ -339,7 +339,7 @@ impl Estimator {
                 Levels {
                     reply,
                     estimator: self,
-                    envelope: [0.0; 20],
+                    envelope: [LinearS16(0.0); 20],
                 }
             }
         } else {
@@ -347,7 +347,7 @@ impl Estimator {
             Levels {
                 reply,
                 estimator: self,
-                envelope: [0.0; 20],
+                envelope: [LinearS16(0.0); 20],
             }
         }
     }

@@ -7,6 +7,7 @@ ghost use lib.ListN.{length, take};
 ghost use Rattle.frames.specs.Parts.{eachPart};
 ghost use Rattle.units.specs.Replies.{done};
 ghost use Rattle.lists.specs.Each.{Each};
+ghost use Rattle.fixed_digital_level_estimator.specs.Envelope.{plain};
 ghost use Rattle.limiter.specs.Scale.{FullScale, Finite};
 ghost use Rattle.limiter.specs.Limiter.{gainsOf, curveAfter, passes, made, processed, changed, cleared, heard};
 ghost use Rattle.limiter.specs.Factors.{whole, line, straight, eighth, curved, firstPart, laterParts, factors, limited};
@@ -157,14 +158,15 @@ struct Gains {
 }
 
 // Looks twenty levels up, one after the other.
-fn look_up(curve: Curve, levels: [f32; 20]) -> Gains
-    ensures { λ r. ⌜ (r .gains ≡ gainsOf curve levels) × (r .curve ≡ curveAfter curve levels) ⌝ }
+fn look_up(curve: Curve, levels: [LinearS16; 20]) -> Gains
+    ensures { λ r. ⌜ (r .gains ≡ gainsOf curve (plain levels)) × (r .curve ≡ curveAfter curve (plain levels)) ⌝ }
 {
-    let mut gains = levels;
+    let mut gains = [0.0; 20];
     let mut counted = curve;
     let mut k = 0;
     while k < 20 {
-        let answer = counted.look_up_gain_to_apply(LinearS16(gains[k]));
+        let level = levels[k];
+        let answer = counted.look_up_gain_to_apply(level);
         let next = answer.curve;
         gains[k] = answer.gain;
         counted = next;

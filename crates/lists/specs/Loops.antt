@@ -30,3 +30,18 @@ module _ {ℓ} {A : Type ℓ} where
   -- It is over once i has reached the length: nothing is left.
   pub scan-done {κ} : {B : Type κ} (F : List A → B) (xs : List A) (i : ℕ) → length xs ≤ i → F (drop i xs) ≡ F []
   scan-done F xs i h = ap F (drop-of-length-le xs h)
+
+-- A loop that reads one list and stores into another.
+module _ {ℓ κ} {A : Type ℓ} {B : Type κ} where
+  -- If F of a list that begins with the element at i is v and then G of the others, then after v is stored at i of the other list
+  -- what is done, then G on what is left, is what it was with F.
+  pub across : (F G : List A → List B) (xs : List A) (out : List B) (i : ℕ) (d : A) (v : B)
+      → i < length xs → i < length out → F (getD xs i d ∷ drop (i + 1) xs) ≡ v ∷ G (drop (i + 1) xs)
+      → take (i + 1) (set out i v) ++ G (drop (i + 1) xs) ≡ take i out ++ F (drop i xs)
+  across F G xs out i d v h k clause =
+      rw (stores out i v (G (drop (i + 1) xs)) k, next xs i d h) (ap (λ (r : List B). take i out ++ r) (sym clause))
+
+  -- It is over once i has reached both lengths: nothing is left.
+  pub across-done : (F : List A → List B) (xs : List A) (out : List B) (i : ℕ)
+      → length xs ≤ i → length out ≤ i → F [] ≡ [] → take i out ++ F (drop i xs) ≡ out
+  across-done F xs out i h k empty = rw (take-all i out k, drop-of-length-le xs h, empty, append-nil)

@@ -19,6 +19,7 @@ use crate::numbers;
 use fixed_digital_level_estimator::Estimator;
 use fixed_digital_level_estimator::Levels;
 use fixed_digital_level_estimator::Next;
+use units::kinds::LinearS16;
 use units::replies::DONE;
 
 // Where the figures stand on the desk.
@@ -70,7 +71,7 @@ pub(crate) fn put(desk: &mut Desk, from: usize, estimator: Estimator) {
 // What is answered where no envelope is asked for.
 fn still(a: Next) -> Levels {
     let estimator = a.estimator;
-    let envelope = [0.0f32; 20];
+    let envelope = [LinearS16(0.0); 20];
     Levels {
         reply: a.reply,
         estimator,
@@ -102,7 +103,7 @@ pub(crate) fn answer(word: u32, given: Given, desk: &mut Desk, frame: &[f32]) ->
     let before = read(desk, numbers::pick(word == SET, ASKED, FROM));
     let a = next(word, before, given, frame);
     let envelope = a.envelope;
-    figures::put_floats(desk, TOLD, &envelope);
+    figures::put_levels(desk, TOLD, envelope);
     put(desk, FROM, a.estimator);
     Reply {
         number: a.reply,

@@ -3,6 +3,7 @@
 
 use crate::numbers;
 use std::num::wrapping_add_usize;
+use units::kinds::LinearS16;
 
 // How many figures the desk has, for the parts of today and some more.
 pub const FIGURES: usize = 256;
@@ -96,11 +97,12 @@ pub(crate) fn put(all: &mut Desk, from: usize, some: &[u32]) {
     }
 }
 
-// Stores some floats, from a place on.
-pub(crate) fn put_floats(all: &mut Desk, from: usize, some: &[f32]) {
+// Stores the twenty levels of a frame, from a place on.
+pub(crate) fn put_levels(all: &mut Desk, from: usize, levels: [LinearS16; 20]) {
     let mut i = 0;
-    while i < some.len() {
-        store(all, wrapping_add_usize(from, i), bits::bits_of(some[i]));
+    while i < 20 {
+        let level = levels[i];
+        store(all, wrapping_add_usize(from, i), bits::bits_of(level.0));
         i += 1;
     }
 }

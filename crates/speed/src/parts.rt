@@ -172,7 +172,7 @@ fn control(frame: &mut [f32], ask: Ask) -> Outcome {
 fn estimate(frame: &mut [f32], ask: Ask) -> Outcome {
     let new = Estimator::new(ask.samples);
     let mut estimator = new.estimator;
-    let mut levels = [0.0; 20];
+    let mut levels = [LinearS16(0.0); 20];
     let mut tape = sound::start();
     let mut refused = false;
     let frames = ask.frames;

@@ -4,6 +4,7 @@
 use std::num::wrapping_add_u32;
 use units::figures::Figures;
 use units::kinds::Dbfs;
+use units::kinds::LinearS16;
 
 // How loud each frame of a syllable is: 160 ms, with peaks 6 dB over full scale.
 const SYLLABLE: [f32; 16] = [
@@ -170,6 +171,13 @@ pub(crate) fn turn(frame: &mut [f32], tape: Tape, sound: u32, number: u32) -> Ta
 }
 
 // A digest with the twenty levels of a frame.
-pub(crate) fn digest_levels(before: u32, levels: [f32; 20]) -> u32 {
-    digest(before, &levels)
+pub(crate) fn digest_levels(before: u32, levels: [LinearS16; 20]) -> u32 {
+    let mut d = before;
+    let mut i = 0;
+    while i < 20 {
+        let level = levels[i];
+        d = mix(d, level.0);
+        i += 1;
+    }
+    d
 }

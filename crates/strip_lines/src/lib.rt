@@ -76,7 +76,8 @@ fn hundredths_of(x: f32) -> u64
     requires { ⌜ closed (ofBits binary32 0xc316_0000) x (ofBits binary32 0x4316_0000) ≡ true ⌝ }
     ensures { λ r. ⌜ r ≡ hundredths x ⌝ }
 {
-    // The magnitude is digits times 2^(exponent - 150), and below 2^8. Below 2^-31 it has no hundredths.
+    // The exponent is below 119 exactly where the magnitude is below 2^-8, which is less than a hundredth. Any
+    // other magnitude is digits times 2^(exponent - 150), and below 2^8: at least 16 places are cut, at most 31.
     let bits = bits::bits_of(floats::magnitude(x));
     let exponent = bits / 8388608;
     let digits = bits % 8388608 + 8388608;

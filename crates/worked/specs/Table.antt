@@ -12,7 +12,7 @@ use Rattle.saturation_protector_buffer.specs.Calls.{fronted}
 use Rattle.saturation_protector_buffer.specs.History.{after-pushes}
 use Rattle.saturation_protector.specs.Calls.{made}
 use Rattle.saturation_protector.specs.History.{Figures, heard}
-use Rattle.interpolated_gain_curve.specs.Gain.{identity, knee, limiter, saturation, onPiece}
+use Rattle.interpolated_gain_curve.specs.Gain.{identity, knee, limiter, saturation, pieceOf, onPiece}
 use Rattle.interpolated_gain_curve.specs.Curve.{fresh, looked}
 use Rattle.strip_format.specs.Format.{one}
 use Rattle.strip_format.specs.Calls.{readHead}
@@ -25,7 +25,7 @@ float n = ofBits binary32 n
 pub data Example : Type 0 where
   -- a level on a new curve has this gain and region
   gains : Float → Float → ℕ → Example
-  -- a level on a new curve has the gain of this piece, and this region
+  -- a level is on this piece, and on a new curve it has the gain of this piece, and this region
   pieces : Float → ℕ → ℕ → Example
   -- a gain in dB has this ratio
   ratios : Float → Float → Example
@@ -49,11 +49,12 @@ numberOf (x ∷ xs) = 1
 
 -- what an example says
 unfoldable pub Holds : Example → Type 0
-unfolding looked fresh onPiece answer fronted after-pushes empty made heard items readHead usual lines
+unfolding looked fresh pieceOf onPiece answer fronted after-pushes empty made heard items readHead usual lines
 Holds (gains level gain region) =
     (looked fresh level .reply ≡ done) × (looked fresh level .gain ≡ gain) × (looked fresh level .curve .region ≡ region)
+-- The gain alone does not tell the piece: at the last knot, 36575.03, pieces 30 and 31 give the same f32.
 Holds (pieces level piece region) =
-    (looked fresh level .reply ≡ done) × (looked fresh level .gain ≡ onPiece piece level) × (looked fresh level .curve .region ≡ region)
+    (pieceOf level ≡ piece) × (looked fresh level .reply ≡ done) × (looked fresh level .gain ≡ onPiece piece level) × (looked fresh level .curve .region ≡ region)
 Holds (ratios db ratio) = answer db ≡ record { reply = done; ratio = ratio }
 Holds (oldest pushes front) =
     fronted (after-pushes empty pushes) ≡ record { reply = done; front = record { number = numberOf front; values = front } }

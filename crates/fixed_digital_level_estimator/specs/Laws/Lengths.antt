@@ -2,10 +2,9 @@
 -- Assumes nothing.
 use mathlib.Core.Path.{_≡_, refl, ap, _∙_}
 use mathlib.Core.List.{List, [], _∷_}
-use Prim.Native.Nat.{ℕ, zero, suc, _<_}
-use native.Mathlib.Nat.{not-suc-le-zero, le-of-suc-le-suc}
+use Prim.Native.Nat.{ℕ, zero, suc}
 use lib.Ieee.{Float}
-use lib.ListN.{length, getD, take, drop}
+use lib.ListN.{length, take, drop}
 use Rattle.fixed_digital_level_estimator.specs.Envelope.{silence, peaksIn, peaksOver, raised, smoothed, decayed}
 use Rattle.fixed_digital_level_estimator.specs.Estimator.{envelopeOf}
 use Rattle.fixed_digital_level_estimator.specs.declared.Estimator.{Estimator}
@@ -41,9 +40,3 @@ unfolding envelopeOf
 envelope-length e channels frame =
     let peaks = peaksOver channels (e .samples) (e .part) silence frame in
     smoothed-length (e .level) (raised peaks) ∙ raised-length peaks ∙ peaks-over-length channels (e .samples) (e .part) silence frame
-
--- What stands inside a list does not depend on what is read past its end.
-pub any-default : (xs : List Float) (i : ℕ) (d f : Float) → i < length xs → getD xs i d ≡ getD xs i f
-any-default [] i d f h = absurd (not-suc-le-zero h)
-any-default (x ∷ xs) zero d f h = refl
-any-default (x ∷ xs) (suc i) d f h = any-default xs i d f (le-of-suc-le-suc h)

@@ -1,13 +1,13 @@
 -- "Every state from a new or accepted call passes", and every envelope that is handed out lies from 0 to 33554432. Of the frame and of the state that come in
 -- it is only asked that their floats are f32, which the borrow checker knows of every slice and every struct.
 -- Assumes nothing.
-use mathlib.Core.Path.{_≡_, refl}
+use mathlib.Core.Path.{_≡_, refl, _∙_}
 use mathlib.Core.Bool.{Bool, true, false, cond}
 use mathlib.Core.List.{List}
 use Prim.Native.Nat.{ℕ, _/_, _<_}
 use native.Mathlib.Omega.{arith}
 use lib.Dec.{T, eqb}
-use lib.ListN.{length, getD}
+use lib.ListN.{length, getD, length-map}
 use lib.Ieee.{Float, nan, binary32, fits, ofBits}
 use borrow.Author.Tests.{eqb-true, eq-eqb}
 use Rattle.units.specs.Figures.{curveLevel}
@@ -15,11 +15,12 @@ use Rattle.units.specs.Replies.{done, refusal}
 use Rattle.frames.specs.Shape.{isSamples}
 use Rattle.frames.specs.Samples.{largestLevel}
 use Rattle.frames.specs.Refusal.{frameRefusal}
-use Rattle.fixed_digital_level_estimator.specs.Envelope.{silence, peaksOver, raised}
+use Rattle.fixed_digital_level_estimator.specs.Envelope.{silence, peaksOver, raised, linear, plain}
 use Rattle.fixed_digital_level_estimator.specs.Estimator.{passes, none, sizedTo, made, envelopeOf, heardUpTo, computed, changed, cleared}
 use Rattle.lists.specs.Each.{Each, each-at}
 use Rattle.fixed_digital_level_estimator.specs.Range.{Level, Held, Ready}
 use Rattle.fixed_digital_level_estimator.specs.Laws.Lengths.{envelope-length}
+use Rattle.fixed_digital_level_estimator.specs.Laws.Kinds.{linear-length, plain-linear}
 use Rattle.fixed_digital_level_estimator.specs.Laws.Accepted.{passing, accepted}
 use Rattle.fixed_digital_level_estimator.specs.Laws.Range.{level-zero, level-of, level-passes, samples-level, peaks-over-level, silence-level, raised-level, smoothed-level}
 use Rattle.fixed_digital_level_estimator.specs.declared.Estimator.{Estimator}
@@ -48,9 +49,9 @@ pub computed-length : (e : Estimator) (frame : List Float) (channels samples : �
 unfolding computed
 computed-length e frame channels samples = go (eqb (frameRefusal frame channels samples (eqb samples (e .samples)) (passes e) true largestLevel) done)
   where
-    go : (b : Bool) → length (cond b (envelopeOf e channels frame) silence) ≡ 20
-    go true = envelope-length e channels frame
-    go false = refl
+    go : (b : Bool) → length (linear (cond b (envelopeOf e channels frame) silence)) ≡ 20
+    go true = linear-length (envelopeOf e channels frame) ∙ envelope-length e channels frame
+    go false = linear-length silence
 
 module _ (e : Estimator) (frame : List Float) (channels samples : ℕ) (level : T (fits binary32 (e .level))) (sound : Held frame) where
   -- The envelope of an accepted frame lies from 0 to 33554432.
@@ -63,22 +64,25 @@ module _ (e : Estimator) (frame : List Float) (channels samples : ℕ) (level : 
       (raised-level peaks (peaks-over-level channels (e .samples) (e .part) silence frame silence-level (samples-level frame sound (a .sound))))
 
   -- Whatever the reply, the envelope that is handed out lies there: of a refused frame it is 0.
-  pub computed-levels : Each Level (computed e frame channels samples .envelope)
+  pub computed-levels : Each Level (plain (computed e frame channels samples .envelope))
   unfolding computed
   computed-levels = go (eqb reply done) (λ (t : eqb reply done ≡ true). envelope-levels (eqb-true reply done t))
     where
       reply : ℕ
       reply = frameRefusal frame channels samples (eqb samples (e .samples)) (passes e) true largestLevel
 
-      go : (b : Bool) → (b ≡ true → Each Level (envelopeOf e channels frame)) → Each Level (cond b (envelopeOf e channels frame) silence)
-      go true f = f refl
-      go false f = silence-level
+      go : (b : Bool) → (b ≡ true → Each Level (envelopeOf e channels frame)) → Each Level (plain (linear (cond b (envelopeOf e channels frame) silence)))
+      go true f = rw (plain-linear (envelopeOf e channels frame)) (f refl)
+      go false f = rw (plain-linear silence) silence-level
 
   -- So the curve accepts each of them.
-  pub computed-curve-levels : (k : ℕ) → k < 20 → T (curveLevel (getD (computed e frame channels samples .envelope) k nan))
+  pub computed-curve-levels : (k : ℕ) → k < 20 → T (curveLevel (getD (plain (computed e frame channels samples .envelope)) k nan))
+  unfolding plain
   computed-curve-levels k h =
-      let xs = computed e frame channels samples .envelope in
-      level-passes (getD xs k nan) (each-at Level xs nan k (rw (computed-length e frame channels samples) h) computed-levels)
+      let all = computed e frame channels samples .envelope in
+      let xs = plain all in
+      let long : length xs ≡ 20 = length-map all _ ∙ computed-length e frame channels samples in
+      level-passes (getD xs k nan) (each-at Level xs nan k (rw long h) computed-levels)
 
   -- The state after an accepted frame passes.
   pub computed-ready : computed e frame channels samples .reply ≡ done → Ready (computed e frame channels samples .estimator)

@@ -17,6 +17,8 @@ use Rattle.frames.specs.Refusal.{frameRefusal}
 use Rattle.frames.specs.Facts.{taken, not-refused, shape-facts}
 use Rattle.fixed_digital_level_estimator.specs.declared.Levels.{Levels}
 use Rattle.fixed_digital_level_estimator.specs.Estimator as E
+use Rattle.fixed_digital_level_estimator.specs.Envelope.{linear, plain}
+use Rattle.fixed_digital_level_estimator.specs.Laws.Kinds.{plain-linear}
 use Rattle.interpolated_gain_curve.specs.Curve as C
 use Rattle.limiter.specs.declared.Limiter.{Limiter}
 use Rattle.interpolated_gain_curve.specs.declared.Curve.{Curve}
@@ -78,7 +80,7 @@ module _ (l : Limiter) (frame : List Float) (channels samples : ℕ) where
     pub estimator : frameRefusal frame channels samples (eqb samples (l .estimator .samples)) (E.passes (l .estimator)) true largestLevel ≡ done
     pub sound : allWithin largestLevel frame ≡ true
     pub found : E.computed (l .estimator) frame channels samples
-        ≡ record { reply = done; estimator = E.heardUpTo (l .estimator) (levelsOf l frame channels); envelope = levelsOf l frame channels }
+        ≡ record { reply = done; estimator = E.heardUpTo (l .estimator) (levelsOf l frame channels); envelope = linear (levelsOf l frame channels) }
 
   pub fine : frameRefusal frame channels samples (eqb samples (l .estimator .samples)) (passes l) true largestLevel ≡ done → Fine
   unfolding E.computed E.passes levelsOf
@@ -119,20 +121,22 @@ module _ (l : Limiter) (frame : List Float) (channels samples : ℕ) where
 
   -- the factors that the steps give
   pub factors-are : (v : Levels) (gains by : List Float)
-      → v ≡ record { reply = done; estimator = E.heardUpTo (l .estimator) (levelsOf l frame channels); envelope = levelsOf l frame channels }
-      → gains ≡ gainsOf (l .curve) (v .envelope)
+      → v ≡ record { reply = done; estimator = E.heardUpTo (l .estimator) (levelsOf l frame channels); envelope = linear (levelsOf l frame channels) }
+      → gains ≡ gainsOf (l .curve) (plain (v .envelope))
       → by ≡ factors (l .estimator .part) (l .carried) gains
       → by ≡ factors (l .estimator .part) (l .carried) (gainsOf (l .curve) (levelsOf l frame channels))
-  factors-are v gains by e g b = cc
+  factors-are v gains by e g b = cc (plain-linear (levelsOf l frame channels))
 
   -- what each step gives, joined
   pub joined : (v : Levels) (gains : List Float) (curve : Curve) (by out : List Float)
-      → v ≡ record { reply = done; estimator = E.heardUpTo (l .estimator) (levelsOf l frame channels); envelope = levelsOf l frame channels }
-      → gains ≡ gainsOf (l .curve) (v .envelope)
-      → curve ≡ curveAfter (l .curve) (v .envelope)
+      → v ≡ record { reply = done; estimator = E.heardUpTo (l .estimator) (levelsOf l frame channels); envelope = linear (levelsOf l frame channels) }
+      → gains ≡ gainsOf (l .curve) (plain (v .envelope))
+      → curve ≡ curveAfter (l .curve) (plain (v .envelope))
       → by ≡ factors (l .estimator .part) (l .carried) gains
       → out ≡ eachPart (limited by) channels samples frame
       → (_≡_ {A = Limiter} (record { estimator = v .estimator; curve = curve; carried = getD gains 19 nan }) (after l (levelsOf l frame channels)))
       × (out ≡ eachPart (limited (factors (l .estimator .part) (l .carried) (gainsOf (l .curve) (levelsOf l frame channels)))) channels samples frame)
   unfolding after
-  joined v gains curve by out e g c b o = (cc, cc)
+  joined v gains curve by out e g c b o =
+      let numbers = plain-linear (levelsOf l frame channels) in
+      (cc, cc)

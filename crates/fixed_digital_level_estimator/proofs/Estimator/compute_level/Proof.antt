@@ -6,11 +6,12 @@ use mathlib.Core.Path.{_≡_, refl, sym, ap, _∙_}
 use Prim.Native.Nat.{ℕ, _*_}
 use native.Mathlib.Omega.{arith}
 use lib.Dec.{eqb}
-use lib.Ieee.{Float, nan}
+use lib.Ieee.{Float}
 use lib.ListN.{length, getD}
 use borrow.Author.Needs.{needs}
 use borrow.Author.Tests.{eqb-true, ne-eqb}
 use Rattle.units.specs.Replies.{done, refusal}
+use Rattle.units.specs.declared.kinds.LinearS16.{LinearS16}
 use Rattle.frames.specs.Refusal.{frameRefusal}
 use Rattle.frames.specs.Shape.{isShape}
 use Rattle.frames.specs.Samples.{largestLevel, allWithin}
@@ -18,9 +19,10 @@ use Rattle.lists.specs.Tests.{each-of}
 use Rattle.frames.specs.Facts.{shape-facts}
 use Rattle.fixed_digital_level_estimator.specs.declared.Estimator.{Estimator}
 use Rattle.fixed_digital_level_estimator.specs.declared.Levels.{Levels}
-use Rattle.fixed_digital_level_estimator.specs.Envelope.{silence, peaksOver, raised, smoothed}
+use Rattle.fixed_digital_level_estimator.specs.Envelope.{silence, peaksOver, raised, smoothed, linear, plain}
 use Rattle.fixed_digital_level_estimator.specs.Estimator.{computed, envelopeOf, heardUpTo, passes}
-use Rattle.fixed_digital_level_estimator.specs.Laws.Lengths.{envelope-length, any-default}
+use Rattle.fixed_digital_level_estimator.specs.Laws.Lengths.{envelope-length}
+use Rattle.fixed_digital_level_estimator.specs.Laws.Kinds.{linear-at}
 use Rattle.fixed_digital_level_estimator.specs.Laws.Accepted.{passing}
 use Rattle.fixed_digital_level_estimator.specs.Laws.States.{computed-levels}
 use Rattle.lists.specs.Each.{Each}
@@ -66,13 +68,13 @@ module _ (e : Estimator) (frame : List Float) (channels samples : ℕ) (ok fits 
 
   -- the answer to a refused one
   refuses : (reply : ℕ) → reply ≡ refusal shape ok true (allWithin largestLevel frame) → (reply ≡ done → ⊥)
-      → _≡_ {A = Levels} (record { reply = reply; estimator = e; envelope = silence }) (computed e frame channels samples)
+      → _≡_ {A = Levels} (record { reply = reply; estimator = e; envelope = linear silence }) (computed e frame channels samples)
   unfolding computed
   refuses reply r d = rw (replied, ← r, ne-eqb reply done d)
 
   -- one that is refused before its samples are looked at
   refuses-early : (reply : ℕ) → reply ≡ refusal shape ok true true → shape && ok ≡ false
-      → _≡_ {A = Levels} (record { reply = reply; estimator = e; envelope = silence }) (computed e frame channels samples)
+      → _≡_ {A = Levels} (record { reply = reply; estimator = e; envelope = linear silence }) (computed e frame channels samples)
   refuses-early reply r t =
       let k = early shape ok (allWithin largestLevel frame) t in
       refuses reply (r ∙ k .0) (λ (d : reply ≡ done). k .1 (sym (r ∙ k .0) ∙ d))
@@ -85,23 +87,24 @@ module _ (e : Estimator) (frame : List Float) (channels samples : ℕ) (ok fits 
         shown : shape ≡ true → ok ≡ true → reply ≡ refusal shape ok true (allWithin largestLevel frame)
         shown s k = rw (s, k, ← w) r
 
-    refuses-late : tame ≡ false → _≡_ {A = Levels} (record { reply = reply; estimator = e; envelope = silence }) (computed e frame channels samples)
+    refuses-late : tame ≡ false → _≡_ {A = Levels} (record { reply = reply; estimator = e; envelope = linear silence }) (computed e frame channels samples)
     refuses-late b = refuses reply is (λ (d : reply ≡ done). late tame b (sym r ∙ d))
 
-    accepts : (peaks high envelope : List Float) → tame ≡ true → peaks ≡ peaksOver channels samples (e .part) silence frame → high ≡ raised peaks
-        → envelope ≡ smoothed (e .level) high
-        → _≡_ {A = Levels} (record { reply = reply; estimator = record { level = getD envelope 19 nan; samples = e .samples; part = e .part }; envelope = envelope }) (computed e frame channels samples)
+    accepts : (peaks high : List Float) (envelope : List LinearS16) (d : LinearS16) → tame ≡ true → peaks ≡ peaksOver channels samples (e .part) silence frame
+        → high ≡ raised peaks
+        → envelope ≡ linear (smoothed (e .level) high)
+        → _≡_ {A = Levels} (record { reply = reply; estimator = record { level = getD envelope 19 d .0; samples = e .samples; part = e .part }; envelope = envelope }) (computed e frame channels samples)
     unfolding computed heardUpTo envelopeOf refusal
-    accepts peaks high envelope b p h s =
+    accepts peaks high envelope d b p h s =
         let same = passed-three t .1 in
-        let whole : envelope ≡ envelopeOf e channels frame = rw (s, h, p, same) in
+        let whole : envelope ≡ linear (envelopeOf e channels frame) = rw (s, h, p, same) in
         let all = envelope-length e channels frame in
         let zero : reply ≡ done = r ∙ ap (refusal true true true) b in
-        rw (replied, ← is, zero, whole, any-default (envelopeOf e channels frame) 19 nan (e .level) (omega arith))
+        rw (replied, ← is, zero, whole, linear-at (envelopeOf e channels frame) 19 d (e .level) (omega arith))
 
 -- The laws on the range ask nothing that is not known of every call: the samples are f32, and so is the state's level.
 in-range : (c : tie.After-shared-slice-known)
-    → Each Level (computed (c .before .args .self) (c .before .args .frame .now) (c .before .args .channels) (c .before .args .samples) .envelope)
+    → Each Level (plain (computed (c .before .args .self) (c .before .args .frame .now) (c .before .args .channels) (c .before .args .samples) .envelope))
 in-range c =
     let args = c .before .args in
     computed-levels (args .self) (args .frame .now) (args .channels) (args .samples) (passed (c .before .good .0 .1 .1 .0 .1)) (c .shared-slice-known .given)
@@ -126,8 +129,8 @@ raise-requires c κs = search needs
 smooth-requires : tie.Need-smooth-requires
 smooth-requires c κs = search needs
 
-array-read-last : tie.Need-array-read-last
-array-read-last c = search needs
+element-copy-out-last : tie.Need-element-copy-out-last
+element-copy-out-last c = search needs
 
 refusal-requires-2 : tie.Need-refusal-requires-2
 refusal-requires-2 c κs = search needs
@@ -138,10 +141,11 @@ returns c =
     let peaks = told .before .before .frame-peaks .ensures in
     let first = told .before .before .before in
     let args = first .before .before .before .before .args in
-    accepts (args .self) (args .frame .now) (args .channels) (args .samples) _ _ (first .before .before .passes .ensures) (first .before .is-shape .ensures) _ _ (first .if1 .taken) (peaks .0) (told .refusal .ensures) _ _ _
+    accepts (args .self) (args .frame .now) (args .channels) (args .samples) _ _ (first .before .before .passes .ensures) (first .before .is-shape .ensures) _ _ (first .if1 .taken) (peaks .0) (told .refusal .ensures) _ _ _ _
     (c .before .before .if2 .taken) (peaks .1 (c .before .before .if2 .taken)) (c .before .raise .ensures) (c .smooth .ensures)
 
 returns-2 : tie.Need-returns-2
+unfolding linear
 returns-2 c =
     let told = c .before in
     let first = told .before .before .before in
@@ -150,6 +154,7 @@ returns-2 c =
     (told .before .before .frame-peaks .ensures .0) (told .refusal .ensures) (c .if2 .left)
 
 returns-3 : tie.Need-returns-3
+unfolding linear
 returns-3 c =
     let first = c .before in
     let args = first .before .before .before .before .args in
@@ -166,7 +171,7 @@ compute-level-spec =
     refusal-requires
     raise-requires
     smooth-requires
-    array-read-last
+    element-copy-out-last
     refusal-requires-2
     returns
     returns-2

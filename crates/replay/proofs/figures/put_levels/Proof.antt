@@ -1,27 +1,26 @@
--- `replay::figures::put_floats` is safe and ends. Assumes nothing.
+-- `replay::figures::put_levels` is safe and ends. Assumes nothing.
 use Prim.Native.Nat.{_-_, _≤_}
-use lib.ListN.{length}
 use borrow.Author.Needs.{needs}
-use Rattle.replay.proofs.figures.put_floats.Statement.{statement}
-use Rattle.replay.proofs.figures.put_floats.Tie as tie
+use Rattle.replay.proofs.figures.put_levels.Statement.{statement}
+use Rattle.replay.proofs.figures.put_levels.Tie as tie
 
 abbrev Inv-loop : tie.InvT-loop
-Inv-loop all₀ from some i₀ all i = (i ≤ length some)
+Inv-loop all₀ from levels i₀ all i = i ≤ 20
 
 abbrev μ-loop : tie.MeasureT-loop
-μ-loop all₀ from some i₀ all i = length some - i
+μ-loop all₀ from levels i₀ all i = 20 - i
 
 loop-holds : tie.Need-loop-holds Inv-loop μ-loop
 loop-holds c = search needs
 
+mul-level : tie.Need-mul-level Inv-loop μ-loop
+mul-level c = search needs
+
+array-copy-out-level : tie.Need-array-copy-out-level Inv-loop μ-loop
+array-copy-out-level c = search needs
+
 wrapping-add-usize-requires : tie.Need-wrapping-add-usize-requires Inv-loop μ-loop
 wrapping-add-usize-requires c κs = search needs
-
-mul-bits-of : tie.Need-mul-bits-of Inv-loop μ-loop
-mul-bits-of c = search needs
-
-shared-slice-read-bits-of : tie.Need-shared-slice-read-bits-of Inv-loop μ-loop
-shared-slice-read-bits-of c = search needs
 
 bits-of-requires : tie.Need-bits-of-requires Inv-loop μ-loop
 bits-of-requires c κs = search needs
@@ -41,16 +40,16 @@ loop-again c = search needs
 returns : tie.Need-returns Inv-loop μ-loop
 returns c = search needs
 
-pub put-floats-spec : {M : Type 1} → statement M
-put-floats-spec =
+pub put-levels-spec : {M : Type 1} → statement M
+put-levels-spec =
     tie.close
     (tie.spec
     Inv-loop
     μ-loop
     loop-holds
+    mul-level
+    array-copy-out-level
     wrapping-add-usize-requires
-    mul-bits-of
-    shared-slice-read-bits-of
     bits-of-requires
     store-requires
     add-i
