@@ -7,9 +7,9 @@ use lib.Ieee.{Float, binary32, ofBits}
 use Rattle.units.specs.Replies.{done}
 use Rattle.units.specs.Settings.{usual}
 use Rattle.decibels.specs.Ratio.{answer}
-use Rattle.saturation_protector_buffer.specs.Ring.{empty, items}
-use Rattle.saturation_protector_buffer.specs.Calls.{fronted}
-use Rattle.saturation_protector_buffer.specs.History.{after-pushes}
+use Rattle.saturation_protector_buffer.specs.Ring.{emptyOf, empty, itemsOf, items}
+use Rattle.saturation_protector_buffer.specs.Calls.{frontedOf, fronted}
+use Rattle.saturation_protector_buffer.specs.History.{after-pushes-of, after-pushes}
 use Rattle.saturation_protector.specs.Calls.{made}
 use Rattle.saturation_protector.specs.History.{Figures, heard}
 use Rattle.interpolated_gain_curve.specs.Gain.{identity, knee, limiter, saturation, onPiece}
@@ -49,7 +49,7 @@ numberOf (x ∷ xs) = 1
 
 -- what an example says
 unfoldable pub Holds : Example → Type 0
-unfolding looked fresh onPiece answer fronted after-pushes empty made heard items readHead usual lines
+unfolding looked fresh onPiece answer frontedOf after-pushes-of emptyOf made heard itemsOf readHead usual lines
 Holds (gains level gain region) =
     (looked fresh level .reply ≡ done) × (looked fresh level .gain ≡ gain) × (looked fresh level .curve .region ≡ region)
 Holds (pieces level piece region) =
