@@ -8,7 +8,7 @@ use native.Mathlib.Nat.{eq-or-lt-of-le}
 use native.Mathlib.Numerals.{add-one}
 use native.Mathlib.Omega.{arith}
 use lib.ListN.{length, getD, set, take, drop, length-append, length-drop, length-set, drop-of-length-le}
-use lib.Seq.{length-take-le, take-all, take-take, take-suc-set, take-set-lt, drop-set-lt, drop-append-le, drop-drop}
+use lib.Seq.{length-take-le, take-all, take-take, take-suc-set, take-set-lt, drop-append-le, drop-drop}
 use lib.Ieee.{Float, nan}
 use borrow.Author.Tests.{lt-ltb, le-ltb, eq-eqb, ne-eqb}
 use Rattle.lists.specs.Stores.{next, after-store}
@@ -185,7 +185,3 @@ module _ (n : ℕ) (stored : List Float) (place size : ℕ) (v : Float) (s : Sou
           let one : more n size ≡ size + 1 = more-early n size less in
           let here : place ≡ size = s .early less in
           after-other n place (omega arith) ∙ ap (λ (k : ℕ). k + 1) here ∙ sym one
-
-  -- The slots from n on are as they were.
-  pub push-beyond : drop n (set stored place v) ≡ drop n stored
-  push-beyond = drop-set-lt n stored place v (s .inside)

@@ -23,7 +23,7 @@ mul-t7 : tie.Need-mul-t7
 mul-t7 c = omega (arith, inside (c .before))
 
 array-read-t10 : tie.Need-array-read-t10
-array-read-t10 c = inside (c .before)
+array-read-t10 c = omega (arith, inside (c .before))
 
 returns : tie.Need-returns
 unfolding said
