@@ -150,7 +150,7 @@ fn aimed(applier: Applier, change: f32, gain: f32) -> Applier
 
 impl Controller {
     // A new controller at its initial gain. Settings out of their ranges and a threshold that is not from
-    // 1 to 200 are refused with 4.
+    // 1 to the largest are refused with 4.
     pub fn new(settings: Settings, threshold: u32) -> Next
         ensures { λ r. ⌜ r ≡ made settings threshold ⌝ }
     {

@@ -215,7 +215,7 @@ fn take(last: Chain, figures: Figures, frame: &mut [f32], channels: usize, sampl
 
 impl Chain {
     // A new chain for channels of so many samples. Samples that are no shape's are refused with 1, then
-    // settings out of their ranges and a threshold that is not from 1 to 200 with 4.
+    // settings out of their ranges and a threshold that is not from 1 to the largest with 4.
     pub fn new(settings: Settings, threshold: u32, samples: usize) -> Made
         ensures { λ r. ⌜ r ≡ made settings threshold samples ⌝ }
     {

@@ -3,12 +3,15 @@
 ghost use mathlib.Core.Path.{_≡_};
 ghost use mathlib.Core.Bool.{cond, true};
 ghost use Rattle.units.specs.Figures.{level as isLevel};
-ghost use Rattle.saturation_protector_buffer.specs.Ring.{passes as passesRing, items};
+ghost use Rattle.saturation_protector_buffer.specs.Rings.{slots};
+ghost use Rattle.saturation_protector_buffer.specs.Ring.{capacity, passes as passesRing, items};
 ghost use Rattle.saturation_protector.specs.Peaks.{allLevels, none, starting, passes, oldestOr, nearer, restarted, advanced};
 ghost use Rattle.saturation_protector.specs.Protector.{passes as passesProtector, analyzed};
 ghost use Rattle.saturation_protector.specs.Calls.{made, stepped, reset, told};
+use saturation_protector_buffer::CAPACITY;
 use saturation_protector_buffer::Front;
 use saturation_protector_buffer::Ring;
+use saturation_protector_buffer::STORAGE;
 use units::kinds::Db;
 use units::kinds::Dbfs;
 use units::replies::refusal;
@@ -81,13 +84,13 @@ fn pick_ring(b: bool, x: Ring, y: Ring) -> Ring
     if b { x } else { y }
 }
 
-// Whether every slot of a ring's storage lies from -150 to 50. It looks at each, whatever it finds.
-fn are_levels(stored: [f32; 4]) -> bool
-    ensures { λ r. ⌜ r ≡ allLevels stored ⌝ }
+// Whether every slot of a ring lies from -150 to 50. It looks at each, whatever it finds.
+fn are_levels(stored: [f32; STORAGE]) -> bool
+    ensures { λ r. ⌜ r ≡ allLevels (slots capacity stored) ⌝ }
 {
     let mut ok = true;
     let mut i = 0;
-    while i < 4 {
+    while i < CAPACITY {
         ok = ok & units::figures::is_level(Dbfs(stored[i]));
         i += 1;
     }
@@ -143,7 +146,7 @@ impl Peaks {
         }
     }
 
-    // Whether a handed-in state passes: the headroom in its range, a ring that passes, with storage and
+    // Whether a handed-in state passes: the headroom in its range, a ring that passes, with slots and
     // largest peak from -150 to 50, and a time from 0 to 400 in tens.
     fn passes(self) -> bool
         ensures { λ r. ⌜ r ≡ passes self ⌝ }
@@ -199,8 +202,8 @@ impl Peaks {
 }
 
 impl Protector {
-    // A new protector that starts at a headroom. A threshold that is not from 1 to 200 is refused with 4,
-    // and then a headroom that is not above 0 and to 100 with 2.
+    // A new protector that starts at a headroom. A threshold that is not from 1 to the largest is refused
+    // with 4, and then a headroom that is not above 0 and to 100 with 2.
     pub fn new(initial: Db, threshold: u32) -> Next
         ensures { λ r. ⌜ r ≡ made (initial .0) threshold ⌝ }
     {

@@ -3,9 +3,9 @@ use mathlib.Core.Path.{_≡_, refl}
 use mathlib.Core.List.{List, [], _∷_}
 use lib.Ieee.{Float, binary32, ofBits}
 use Rattle.units.specs.Replies.{done}
-use Rattle.saturation_protector_buffer.specs.Ring.{empty}
-use Rattle.saturation_protector_buffer.specs.Calls.{fronted}
-use Rattle.saturation_protector_buffer.specs.History.{after-pushes}
+use Rattle.saturation_protector_buffer.specs.Ring.{emptyOf, empty}
+use Rattle.saturation_protector_buffer.specs.Calls.{frontedOf, fronted}
+use Rattle.saturation_protector_buffer.specs.History.{after-pushes-of, after-pushes}
 
 -- 1, 2, 3, 4 and 5
 abbrev pub oneToFive : List Float
@@ -14,10 +14,10 @@ oneToFive =
 
 -- "Push 1 to 5: oldest is 2."
 pub push-1-to-5 : fronted (after-pushes empty oneToFive) ≡ record { reply = done; front = record { number = 1; values = ofBits binary32 0x4000_0000 ∷ [] } }
-unfolding fronted after-pushes empty ofBits
+unfolding frontedOf after-pushes-of emptyOf ofBits
 push-1-to-5 = refl
 
 -- "Empty ring: none."
 pub empty-none : fronted empty ≡ record { reply = done; front = record { number = 0; values = [] } }
-unfolding fronted empty ofBits
+unfolding frontedOf emptyOf ofBits
 empty-none = refl

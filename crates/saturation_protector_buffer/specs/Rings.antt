@@ -1,4 +1,5 @@
--- A ring over any size n: a list of n stored numbers, the place where the next one goes, and how many there are. Definitions only.
+-- A ring over any size n: the first n numbers of a storage that may be longer, the place where the next one goes, and how many there are.
+-- Definitions only.
 use mathlib.Core.Bool.{Bool, true, false, _&&_, cond}
 use mathlib.Core.List.{List, [], _∷_, _++_}
 use Prim.Native.Nat.{ℕ, _+_, _-_}
@@ -7,15 +8,19 @@ use lib.ListN.{length, take, drop}
 use lib.Ieee.{Float, eq}
 use lib.Ieee.Scale.{finite}
 
+-- the slots of a ring of n: the first n of its storage
+abbrev pub slots : ℕ → List Float → List Float
+slots n stored = take n stored
+
 -- each is a number
 unfoldable pub allFinite : List Float → Bool
 allFinite [] = true
 allFinite (x ∷ xs) = finite x && allFinite xs
 
--- "ring place 0 to 3, size 0 to 4, stored items finite": below n, to n, and everything that is stored
+-- "ring place 0 to 3, size 0 to 4, stored items finite": below n, to n, and every slot of the ring, also one that holds no item now
 unfoldable pub fitsRing : ℕ → List Float → ℕ → ℕ → Bool
 unfolding allFinite
-fitsRing n stored place size = ltb place n && leb size n && allFinite stored
+fitsRing n stored place size = ltb place n && leb size n && allFinite (slots n stored)
 
 -- the place after this one, round the ring
 unfoldable pub after : ℕ → ℕ → ℕ
@@ -29,10 +34,10 @@ more n size = cond (ltb size n) (size + 1) size
 unfoldable pub start : ℕ → ℕ → ℕ → ℕ
 start n place size = cond (eqb size n) place 0
 
--- "the items, oldest first": as many as there are, round the storage from the oldest
+-- "the items, oldest first": as many as there are, round the slots from the oldest
 unfoldable pub items : ℕ → List Float → ℕ → ℕ → List Float
 unfolding start
-items n stored place size = take size (drop (start n place size) stored ++ take (start n place size) stored)
+items n stored place size = take size (drop (start n place size) (slots n stored) ++ take (start n place size) (slots n stored))
 
 -- equal as floats, one by one
 unfoldable pub sameItems : List Float → List Float → Bool

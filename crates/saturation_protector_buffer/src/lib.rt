@@ -3,7 +3,7 @@
 
 ghost use mathlib.Core.Path.{_≡_};
 ghost use Prim.Native.Nat.{_<_, _≤_};
-ghost use Rattle.saturation_protector_buffer.specs.Rings.{allFinite, start, sameItems};
+ghost use Rattle.saturation_protector_buffer.specs.Rings.{slots, allFinite, start, sameItems};
 ghost use Rattle.saturation_protector_buffer.specs.Ring.{capacity, empty, passes, push, items, said};
 ghost use Rattle.saturation_protector_buffer.specs.Calls.{pushed, told, oldest, fronted, sized, forgotten, compared};
 ghost use Rattle.saturation_protector_buffer.specs.Steps.{Within, round};
@@ -13,10 +13,13 @@ use units::replies::refusal;
 // How many peaks the ring holds.
 pub const CAPACITY: usize = 4;
 
+// How many slots its storage has: one for each peak.
+pub const STORAGE: usize = CAPACITY;
+
 // The storage, the place where the next peak goes (the Rust's `next`) and how many peaks there are.
 #[repr(C)]
 pub struct Ring {
-    pub stored: [f32; 4],
+    pub stored: [f32; STORAGE],
     pub place: usize,
     pub size: usize,
 }
@@ -64,13 +67,13 @@ impl Ring {
         ensures { λ r. ⌜ r ≡ empty ⌝ }
     {
         Ring {
-            stored: [0.0; 4],
+            stored: [0.0; STORAGE],
             place: 0,
             size: 0,
         }
     }
 
-    // Whether a handed-in ring passes: place 0 to 3, size 0 to 4, and everything stored is finite.
+    // Whether a handed-in ring passes: a place below its capacity, a size up to it, and every slot finite.
     pub fn passes(self) -> bool
         ensures { λ r. ⌜ r ≡ passes self ⌝ }
     {
@@ -98,7 +101,7 @@ impl Ring {
     // The Rust's push_back: the peak stored at the place, the place after it round the ring, and one
     // peak more, up to the ring's capacity.
     fn store(self, v: f32) -> Ring
-        requires { ⌜ Within self ⌝ }
+        requires { ⌜ Within capacity self ⌝ }
         ensures { λ r. ⌜ r ≡ push self v ⌝ }
     {
         let mut stored = self.stored;
@@ -134,7 +137,7 @@ impl Ring {
 
     // The Rust's front: none where there is no peak, otherwise what is stored at the front index.
     fn oldest(self) -> Front
-        requires { ⌜ Within self ⌝ }
+        requires { ⌜ Within capacity self ⌝ }
         ensures { λ r. ⌜ said r ≡ oldest (items self) ⌝ }
     {
         let stored = self.stored;
@@ -205,9 +208,9 @@ impl Ring {
     }
 }
 
-// Whether every slot of the storage is finite. It looks at each slot, whatever it finds.
-fn are_finite(stored: [f32; 4]) -> bool
-    ensures { λ r. ⌜ r ≡ allFinite stored ⌝ }
+// Whether every slot of the ring is finite. It looks at each slot, whatever it finds.
+fn are_finite(stored: [f32; STORAGE]) -> bool
+    ensures { λ r. ⌜ r ≡ allFinite (slots capacity stored) ⌝ }
 {
     let mut ok = true;
     let mut i = 0;
@@ -220,7 +223,7 @@ fn are_finite(stored: [f32; 4]) -> bool
 
 // The Rust's eq: as many peaks, and each equal to the other's, oldest first.
 fn same_items(a: Ring, b: Ring) -> bool
-    requires { ⌜ Within a × Within b ⌝ }
+    requires { ⌜ Within capacity a × Within capacity b ⌝ }
     ensures { λ r. ⌜ r ≡ sameItems (items a) (items b) ⌝ }
 {
     let xs = a.stored;
@@ -236,9 +239,9 @@ fn same_items(a: Ring, b: Ring) -> bool
 }
 
 // Whether two storages agree on as many slots, each counted round the ring from where it starts.
-fn same_from(xs: [f32; 4], from: usize, ys: [f32; 4], other: usize, size: usize) -> bool
+fn same_from(xs: [f32; STORAGE], from: usize, ys: [f32; STORAGE], other: usize, size: usize) -> bool
     requires { ⌜ (from < capacity) × (other < capacity) × (size ≤ capacity) ⌝ }
-    ensures { λ r. ⌜ r ≡ sameItems (round xs from size) (round ys other size) ⌝ }
+    ensures { λ r. ⌜ r ≡ sameItems (round capacity xs from size) (round capacity ys other size) ⌝ }
 {
     let mut same = true;
     let mut i = 0;

@@ -180,8 +180,8 @@ fn fresh(settings: Settings, threshold: u32, initial: f32) -> Estimator
 }
 
 impl Estimator {
-    // A new estimator. Settings out of their ranges and a threshold that is not from 1 to 200 are refused
-    // with 4.
+    // A new estimator. Settings out of their ranges and a threshold that is not from 1 to the largest are
+    // refused with 4.
     pub fn new(settings: Settings, threshold: u32) -> Next
         ensures { λ r. ⌜ r ≡ made settings threshold ⌝ }
     {

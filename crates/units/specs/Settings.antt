@@ -8,11 +8,11 @@ use Rattle.floats.specs.Kinds.{isNegativeZero}
 use Rattle.units.specs.Ranges.{closed, above}
 use Rattle.units.specs.declared.settings.Settings.{Settings}
 
--- the largest number of adjacent speech frames that can be asked for
+-- "T 1 to 200": the largest number of adjacent speech frames that can be asked for
 abbrev pub largestThreshold : ℕ
 largestThreshold = 200
 
--- "T 1 to 200"
+-- a threshold lies from 1 to the largest
 abbrev pub threshold : ℕ → Bool
 threshold frames = leb 1 frames && leb frames largestThreshold
 

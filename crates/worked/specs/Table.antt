@@ -7,16 +7,16 @@ use lib.Ieee.{Float, binary32, ofBits}
 use Rattle.units.specs.Replies.{done}
 use Rattle.units.specs.Settings.{usual}
 use Rattle.decibels.specs.Ratio.{answer}
-use Rattle.saturation_protector_buffer.specs.Ring.{empty, items}
-use Rattle.saturation_protector_buffer.specs.Calls.{fronted}
-use Rattle.saturation_protector_buffer.specs.History.{after-pushes}
+use Rattle.saturation_protector_buffer.specs.Ring.{emptyOf, empty, itemsOf, items}
+use Rattle.saturation_protector_buffer.specs.Calls.{frontedOf, fronted}
+use Rattle.saturation_protector_buffer.specs.History.{after-pushes-of, after-pushes}
 use Rattle.saturation_protector.specs.Calls.{made}
 use Rattle.saturation_protector.specs.History.{Figures, heard}
 use Rattle.interpolated_gain_curve.specs.Gain.{identity, knee, limiter, saturation, pieceOf, onPiece}
 use Rattle.interpolated_gain_curve.specs.Curve.{fresh, looked}
 use Rattle.strip_format.specs.Format.{one}
 use Rattle.strip_format.specs.Calls.{readHead}
-use Rattle.strip_run.specs.Run.{lines}
+use Rattle.strip_run.specs.Lines.{lines}
 
 -- a float by its bits
 abbrev pub float : ℕ → Float
@@ -49,7 +49,7 @@ numberOf (x ∷ xs) = 1
 
 -- what an example says
 unfoldable pub Holds : Example → Type 0
-unfolding looked fresh pieceOf onPiece answer fronted after-pushes empty made heard items readHead usual lines
+unfolding looked fresh pieceOf onPiece answer frontedOf after-pushes-of emptyOf made heard itemsOf readHead usual lines
 Holds (gains level gain region) =
     (looked fresh level .reply ≡ done) × (looked fresh level .gain ≡ gain) × (looked fresh level .curve .region ≡ region)
 -- The gain alone does not tell the piece: at the last knot, 36575.03, pieces 30 and 31 give the same f32.

@@ -260,24 +260,27 @@ equal-box b x y t i h =
     right : (p n q m c d : ℕ) → p + m ≡ q + n → q + d ≤ c + m → p + d ≤ c + n
     right p n q m c d i h = omega arith
 
--- ---- by how much the gain may rise
-threshold-value : Value (ofBits binary32 0x4348_0000) (200 * U) 0
+-- ---- by how much the gain may rise: for any threshold that is an f32 as it stands, which every whole number below 2 ^ 24 is
+power-value : Value (ofBits binary32 0x4b80_0000) (2 ^ 24 * U) 0
 unfolding P N size U ofBits
-threshold-value = record { number = constant-number 0x4348_0000 tt; plus = refl; minus = refl }
+power-value = record { number = constant-number 0x4b80_0000 tt; plus = refl; minus = refl }
 
-threshold-box : (n : ℕ) → n ≤ 200 → Boxed (from-to 0x0000_0000 0x4348_0000) (ofInt binary32 (pos n))
+threshold-box : (n : ℕ) → n < 2 ^ 24 → Boxed (from-to 0x0000_0000 0x4b80_0000) (ofInt binary32 (pos n))
 unfolding ofBits
 threshold-box n h =
-    let v = whole-number n (omega arith) in
+    let v = whole-number n h in
     let x = ofInt binary32 (pos n) in
-    let t = threshold-value in
-    boxed 0x0000_0000 0x4348_0000 tt tt x
+    let t = power-value in
+    boxed 0x0000_0000 0x4b80_0000 tt tt x
     (record {
       number = v .number;
       above = low (P x) (N x) (P zero) (N zero) (v .minus) (nought-value .plus);
-      below = high (P x) (N x) (P (ofBits binary32 0x4348_0000)) (N (ofBits binary32 0x4348_0000)) (n * U) (200 * U) (v .plus) (t .plus) (t .minus) (mul-le-mul-right U h);
+      below = high (P x) (N x) (P (ofBits binary32 0x4b80_0000)) (N (ofBits binary32 0x4b80_0000)) (n * U) (2 ^ 24 * U) (v .plus) (t .plus) (t .minus) (mul-le-mul-right U (lt-le n (2 ^ 24) h));
     })
   where
+    lt-le : (a b : ℕ) → a < b → a ≤ b
+    lt-le a b h = omega arith
+
     low : (p n q m : ℕ) → n ≡ 0 → q ≡ 0 → q + n ≤ p + m
     low p n q m i j = omega arith
 
@@ -288,7 +291,7 @@ rise-expr : Expr
 rise-expr = product (variable 0) (variable 1)
 
 rise-boxes : List Box
-rise-boxes = from-to 0x0000_0000 0x3f80_0000 ∷ from-to 0x0000_0000 0x4348_0000 ∷ []
+rise-boxes = from-to 0x0000_0000 0x3f80_0000 ∷ from-to 0x0000_0000 0x4b80_0000 ∷ []
 
 rise-bounded : T (bounded rise-boxes rise-expr)
 unfolding rise-expr rise-boxes bounded mul larger smaller ofBits bits fits lt
@@ -302,8 +305,8 @@ rise-low = tt
 pub change-step : (x : Float) → Boxed (from-to 0x0000_0000 0x3f80_0000) x → Step x
 change-step x b = record { number = b .inside .number; up = b .inside .above }
 
--- And so is the faster one, for a threshold up to 200.
-pub rise-step : (first : Bool) (threshold : ℕ) (change : Float) → threshold ≤ 200 → Boxed (from-to 0x0000_0000 0x3f80_0000) change → Step (increase first threshold change)
+-- And so is the faster one, for any threshold below 2 ^ 24.
+pub rise-step : (first : Bool) (threshold : ℕ) (change : Float) → threshold < 2 ^ 24 → Boxed (from-to 0x0000_0000 0x3f80_0000) change → Step (increase first threshold change)
 unfolding increase rise-expr rise-boxes eval
 rise-step first threshold change h b =
     let i = interval rise-boxes (change ∷ ofInt binary32 (pos threshold) ∷ []) (b, (threshold-box threshold h, tt)) rise-expr rise-bounded in

@@ -2,10 +2,11 @@
 use mathlib.Core.Path.{_≡_}
 use mathlib.Core.Bool.{Bool, true, false, _&&_, cond}
 use mathlib.Core.List.{[], _∷_}
-use Prim.Native.Nat.{ℕ, _-_, _≤_, _<_}
+use Prim.Native.Nat.{ℕ, _-_, _^_, _≤_, _<_}
+use native.Mathlib.Nat.{lt-of-le-of-lt}
 use native.Mathlib.Omega.{arith}
 use borrow.Author.Tests.{leb-true, le-leb, ne-eqb}
-use lib.Dec.{T, leb, ltb, eqb}
+use lib.Dec.{T, leb, ltb, eqb, lit<}
 use lib.Ieee.{Float, binary32, ofBits, add, eq, ne, le, lt, fits, size as bits}
 use lib.Ieee.Bits.{is-true}
 use Rattle.rounding.specs.Laws.Order.{le→units, units→le}
@@ -55,9 +56,13 @@ pub passing : (c : Controller) → Passed c → passes c ≡ true
 unfolding passes
 passing c p = p .settings and p .threshold and p .change and p .waiting and p .gain and p .applier and p .last and p .current
 
--- A threshold that passes is at most 200.
-pub threshold-most : (n : ℕ) → Settings.threshold n ≡ true → n ≤ 200
-threshold-most n h = leb-true n 200 (each-of (leb 1 n ∷ leb n 200 ∷ []) h 1)
+-- A threshold that passes is at most the largest.
+pub threshold-most : (n : ℕ) → Settings.threshold n ≡ true → n ≤ Settings.largestThreshold
+threshold-most n h = leb-true n Settings.largestThreshold (each-of (leb 1 n ∷ leb n Settings.largestThreshold ∷ []) h 1)
+
+-- So it is an f32 as it stands: the largest is below 2 ^ 24. No law here asks more of that number.
+pub threshold-exact : (n : ℕ) → Settings.threshold n ≡ true → n < 2 ^ 24
+threshold-exact n h = lt-of-le-of-lt (threshold-most n h) (lit< tt)
 
 -- A gain that passes lies from 0 to 51.
 pub gain-in : (x : Float) → T (fits binary32 x) → Figures.gain x ≡ true → Gain x
@@ -129,7 +134,7 @@ module _ (c : Controller) (i : Info) (h : HeldState c) (k : HeldInfo i) (p : pas
   most = change-step (c .change) per-frame
 
   rise : (first : Bool) → Step (increase first (c .threshold) (c .change))
-  rise first = rise-step first (c .threshold) (c .change) (threshold-most (c .threshold) (all .threshold)) per-frame
+  rise first = rise-step first (c .threshold) (c .change) (threshold-exact (c .threshold) (all .threshold)) per-frame
 
   -- From a state that passes and accepted figures the new gain is a number from 0 to 51.
   pub gain-stays : Gain (decided c i .gain)

@@ -7,17 +7,20 @@ use Prim.Native.Nat.{_≤_, _-_}
 use native.Mathlib.Omega.{arith}
 use lib.Ieee.{Float, nan}
 use lib.ListN.{length, drop}
+use lib.Seq.{length-take-le, getD-take}
 use borrow.Author.Needs.{needs}
 use Rattle.lists.specs.Loops.{scan, scan-done}
+use Rattle.saturation_protector_buffer.specs.Rings.{slots}
+use Rattle.saturation_protector_buffer.specs.Ring.{capacity, storage}
 use Rattle.saturation_protector.specs.Peaks.{allLevels}
 use Rattle.saturation_protector.proofs.are_levels.Statement.{statement}
 use Rattle.saturation_protector.proofs.are_levels.Tie as tie
 
 abbrev Inv-loop : tie.InvT-loop
-Inv-loop stored ok₀ i₀ ok i = (i ≤ 4) × (ok && allLevels (drop i stored) ≡ allLevels stored)
+Inv-loop stored ok₀ i₀ ok i = (i ≤ capacity) × (ok && allLevels (drop i (slots capacity stored)) ≡ allLevels (slots capacity stored))
 
 abbrev μ-loop : tie.MeasureT-loop
-μ-loop stored ok₀ i₀ ok i = 4 - i
+μ-loop stored ok₀ i₀ ok i = capacity - i
 
 loop-holds : tie.Need-loop-holds Inv-loop μ-loop
 loop-holds c = search needs
@@ -44,10 +47,11 @@ loop-again c =
     let loop = c .before .before .loop in
     let ok = loop .ok in
     let r = c .is-level .result in
-    let long : length stored ≡ 4 = search needs in (
+    let long : length stored ≡ storage = search needs in
+    let whole : length (slots capacity stored) ≡ capacity = length-take-le capacity stored (omega arith) in (
       omega arith,
-      scan (λ (ys : List Float). ok && allLevels ys) (λ (ys : List Float). ok && r && allLevels ys) stored (loop .i) nan (omega arith)
-          (rw (c .is-level .ensures) (sym (and-assoc ok _ _)))
+      scan (λ (ys : List Float). ok && allLevels ys) (λ (ys : List Float). ok && r && allLevels ys) (slots capacity stored) (loop .i) nan (omega arith)
+          (rw (c .is-level .ensures, getD-take capacity stored (loop .i) nan (omega arith)) (sym (and-assoc ok _ _)))
           ∙ loop .inv .1,
     )
 
@@ -56,8 +60,9 @@ unfolding allLevels
 returns c =
     let stored = c .before .before .args .t1 in
     let loop = c .before .loop in
-    let long : length stored ≡ 4 = search needs in
-    sym (and-true (loop .ok)) ∙ sym (scan-done (λ (ys : List Float). loop .ok && allLevels ys) stored (loop .i) (omega arith)) ∙ loop .inv .1
+    let long : length stored ≡ storage = search needs in
+    let whole : length (slots capacity stored) ≡ capacity = length-take-le capacity stored (omega arith) in
+    sym (and-true (loop .ok)) ∙ sym (scan-done (λ (ys : List Float). loop .ok && allLevels ys) (slots capacity stored) (loop .i) (omega arith)) ∙ loop .inv .1
 
 pub are-levels-spec : {M : Type 1} → statement M
 are-levels-spec =

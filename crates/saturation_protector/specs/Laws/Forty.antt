@@ -5,7 +5,7 @@ use mathlib.Core.Bool.{Bool, true, false, _&&_, cond, false≢true}
 use mathlib.Core.List.{List, [], _∷_}
 use Prim.Native.Nat.{ℕ, _≤_}
 use native.Mathlib.Omega.{arith}
-use lib.Dec.{lit<}
+use lib.Dec.{lit<, lit≤}
 use lib.ListN.{length}
 use lib.Ieee.{Float}
 use Rattle.lists.specs.Each.{Each}
@@ -15,7 +15,6 @@ use Rattle.units.specs.Settings.{threshold}
 use Rattle.units.specs.Replies.{done}
 use Rattle.units.specs.Laws.Replies.{none-refused}
 use Rattle.saturation_protector_buffer.specs.Ring as Ring
-use Rattle.saturation_protector_buffer.specs.History.{emptyOf}
 use Rattle.saturation_protector_buffer.specs.Laws.Pushes.{push-items, last-short}
 use Rattle.saturation_protector_buffer.specs.Laws.History.{SoundRing, new-sound, reset-sound}
 use Rattle.saturation_protector_buffer.specs.declared.Ring.{Ring as Stored}
@@ -37,9 +36,9 @@ pub record Starts (s : Protector) : Type 0 where
   pub elapsed : s .preliminary .elapsed ≡ 0
 
 -- a push into a ring without items
-first-item : (r : Stored) (v : Float) → SoundRing Ring.capacity r → Ring.items r ≡ [] → Ring.items (Ring.push r v) ≡ v ∷ []
-unfolding Ring.items Ring.push
-first-item r v s h = push-items Ring.capacity (r .stored) (r .place) (r .size) v s ∙ rw h (last-short Ring.capacity (v ∷ []) (omega arith))
+first-item : (n : ℕ) (r : Stored) (v : Float) → SoundRing n r → Ring.itemsOf n r ≡ [] → Ring.itemsOf n (Ring.pushOf n r v) ≡ v ∷ []
+unfolding Ring.itemsOf Ring.pushOf
+first-item n r v s h = push-items n (r .stored) (r .place) (r .size) v s ∙ rw h (last-short n (v ∷ []) (omega (arith, s .inside)))
 
 module _ (s : Protector) (start : Starts s) (fs : List Figures) (ranges : Each InRange fs) (speech : Each Speech fs) where
   -- "40 speech frames push nothing"
@@ -51,23 +50,23 @@ module _ (s : Protector) (start : Starts s) (fs : List Figures) (ranges : Each I
   pub forty-first-pushes-one : length fs ≡ 41 → Ring.items (heard s fs .preliminary .ring) ≡ largestOf lowest fs ∷ []
   forty-first-pushes-one h =
       rw (heard-preliminary s fs (start .state) ranges speech, forty-first-pushes (s .preliminary) fs (start .elapsed) h .ring, start .largest)
-      (first-item (s .preliminary .ring) (largestOf lowest fs) (start .sound) (start .items))
+      (first-item Ring.capacity (s .preliminary .ring) (largestOf lowest fs) (start .sound) (start .items))
 
 -- A new protector starts.
 pub made-starts : (initial : Float) (t : ℕ) → made initial t .reply ≡ done → Starts (made initial t .protector)
-unfolding made fresh starting emptyOf Ring.empty Ring.items
+unfolding made fresh starting Ring.emptyOf Ring.itemsOf
 made-starts initial t h =
     let k = none-refused true (threshold t) (headroom initial) true h in
     let p = made-passes initial t h in
     go (threshold t && headroom initial) (k .1 and k .2) p
   where
     go : (b : Bool) → b ≡ true → passes (cond b (fresh initial t) nothing) ≡ true → Starts (cond b (fresh initial t) nothing)
-    go true e p = record { state = p; sound = new-sound Ring.capacity (lit< tt); items = refl; largest = refl; elapsed = refl }
+    go true e p = record { state = p; sound = new-sound Ring.capacity Ring.storage (lit< tt) (lit≤ tt); items = refl; largest = refl; elapsed = refl }
     go false e p = absurd (false≢true e)
 
--- A protector that was reset starts; that its storage has four places is what the borrow checker knows of an array.
-pub reset-starts : (s : Protector) → length (s .preliminary .ring .stored) ≡ Ring.capacity → reset s .reply ≡ done → Starts (reset s .protector)
-unfolding reset again restarted Ring.reset Ring.items
+-- A protector that was reset starts; that its ring's storage is long enough is what the borrow checker knows of an array.
+pub reset-starts : (s : Protector) → Ring.capacity ≤ length (s .preliminary .ring .stored) → reset s .reply ≡ done → Starts (reset s .protector)
+unfolding reset again restarted Ring.reset Ring.itemsOf
 reset-starts s long h = go (passes s) (none-refused true (passes s) true true h .1) (reset-passes s h)
   where
     go : (b : Bool) → b ≡ true → passes (cond b (again s) s) ≡ true → Starts (cond b (again s) s)

@@ -1,16 +1,16 @@
--- Lists of levels: what is stored in the ring of a state that passes, and so its items. Laws.
+-- Lists of levels: the slots of the ring of a state that passes, and so its items, over any size n of the ring. Laws.
 -- Assumes nothing.
 use mathlib.Core.Path.{_≡_, refl}
 use mathlib.Core.Bool.{Bool, true, false, cond}
 use mathlib.Core.List.{List, [], _∷_, _++_}
 use Prim.Native.Nat.{ℕ, zero, suc}
-use lib.ListN.{set, take, drop}
-use lib.Ieee.{Float, ofBits, le, lt, eq}
+use lib.ListN.{set, take, drop, replicate}
+use lib.Ieee.{Float, binary32, ofBits, le, lt, eq}
 use Rattle.lists.specs.Each.{Each, each-take, each-drop, each-append}
 use Rattle.lists.specs.Tests.{each-of, _and_}
 use Rattle.units.specs.Figures.{level}
 use Rattle.saturation_protector_buffer.specs.Rings as Rings
-use Rattle.saturation_protector_buffer.specs.Ring.{capacity, empty, items}
+use Rattle.saturation_protector_buffer.specs.Ring.{emptyOf, itemsOf}
 use Rattle.saturation_protector_buffer.specs.declared.Ring.{Ring}
 use Rattle.saturation_protector.specs.Peaks.{allLevels, lowest, oldestOr}
 
@@ -33,24 +33,39 @@ levels-set (x ∷ xs) (suc i) v h k =
     let p = each-of (level x ∷ allLevels xs ∷ []) h in
     p 0 and levels-set xs i v (p 1) k
 
--- The storage of a new ring is all levels.
-pub empty-levels : allLevels (empty .stored) ≡ true
-unfolding allLevels empty le lt eq ofBits
-empty-levels = refl
+-- As many of one level as asked for, and the first n of levels, are levels.
+pub levels-replicate : (storage : ℕ) (v : Float) → level v ≡ true → allLevels (replicate storage v) ≡ true
+unfolding allLevels
+levels-replicate zero v k = refl
+levels-replicate (suc storage) v k = k and levels-replicate storage v k
+
+pub levels-take : (n : ℕ) (xs : List Float) → allLevels xs ≡ true → allLevels (take n xs) ≡ true
+unfolding allLevels
+levels-take zero xs h = refl
+levels-take (suc n) [] h = refl
+levels-take (suc n) (x ∷ xs) h =
+    let p = each-of (level x ∷ allLevels xs ∷ []) h in
+    p 0 and levels-take n xs (p 1)
+
+-- The slots of a new ring are levels.
+pub empty-levels : (n storage : ℕ) → allLevels (Rings.slots n (emptyOf storage .stored)) ≡ true
+unfolding emptyOf le lt eq ofBits
+empty-levels n storage = levels-take n (emptyOf storage .stored) (levels-replicate storage (ofBits binary32 0x0000_0000) refl)
 
 -- The lowest level is one.
 pub lowest-level : level lowest ≡ true
 unfolding le lt eq ofBits
 lowest-level = refl
 
--- The items of a ring whose storage is all levels are levels.
-pub items-levels : (r : Ring) → allLevels (r .stored) ≡ true → Each Level (items r)
-unfolding items Rings.items
-items-levels r h =
-    let all = levels-each (r .stored) h in
-    let i = Rings.start capacity (r .place) (r .size) in
-    each-take Level (r .size) (drop i (r .stored) ++ take i (r .stored))
-    (each-append Level (drop i (r .stored)) (take i (r .stored)) (each-drop Level i (r .stored) all) (each-take Level i (r .stored) all))
+-- The items of a ring whose slots are levels are levels.
+pub items-levels : (n : ℕ) (r : Ring) → allLevels (Rings.slots n (r .stored)) ≡ true → Each Level (itemsOf n r)
+unfolding itemsOf Rings.items
+items-levels n r h =
+    let slots = Rings.slots n (r .stored) in
+    let all = levels-each slots h in
+    let i = Rings.start n (r .place) (r .size) in
+    each-take Level (r .size) (drop i slots ++ take i slots)
+    (each-append Level (drop i slots) (take i slots) (each-drop Level i slots all) (each-take Level i slots all))
 
 -- The oldest of levels, or another one, is a level.
 pub oldest-level : (xs : List Float) (other : Float) → Each Level xs → level other ≡ true → level (oldestOr xs other) ≡ true

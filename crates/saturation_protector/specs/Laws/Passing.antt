@@ -1,10 +1,11 @@
--- A state that passes goes on passing: the headroom stays from 12 to 25, storage and largest peak from -150 to 50, and the time from 0 to 400 in tens. Laws.
+-- A state that passes goes on passing: the headroom stays from 12 to 25, slots and largest peak from -150 to 50, and the time from 0 to 400 in tens. Laws.
 -- Assumes nothing.
 use mathlib.Core.Path.{_≡_, refl, sym, ap, _∙_}
 use mathlib.Core.Bool.{Bool, true, false, cond}
 use Prim.Native.Nat.{_+_, _%_}
 use native.Mathlib.Omega.{arith}
-use lib.Dec.{ltb}
+use lib.Dec.{ltb, lit<}
+use lib.Seq.{take-set-lt}
 use lib.Ieee.{Float, binary32, sub}
 use borrow.Author.Tests.{ltb-false, le-leb, eq-eqb}
 use Rattle.lists.specs.Tests.{_and_}
@@ -27,7 +28,7 @@ use Rattle.saturation_protector.specs.Laws.Range.{nearer-in, in-headroom
 pub starting-passes : (h : Float) → headroom h ≡ true → passes (starting h) ≡ true
 unfolding starting
 starting-passes h p =
-    passing (starting h) (record { headroom = p; ring = Rings.empty-passes; stored = empty-levels; largest = lowest-level; time = refl })
+    passing (starting h) (record { headroom = p; ring = Rings.empty-passes Ring.capacity Ring.storage (lit< tt); stored = empty-levels Ring.capacity Ring.storage; largest = lowest-level; time = refl })
 
 -- A state that passes does so after a reset.
 pub restarted-passes : (h : Float) (s : Peaks) → headroom h ≡ true → passes s ≡ true → passes (restarted h s) ≡ true
@@ -35,7 +36,7 @@ unfolding restarted Ring.reset
 restarted-passes h s p q =
     let was = passed s q in
     passing (restarted h s)
-    (record { headroom = p; ring = Rings.reset-passes (s .ring) (was .ring); stored = was .stored; largest = lowest-level; time = refl })
+    (record { headroom = p; ring = Rings.reset-passes Ring.capacity (s .ring) (was .ring); stored = was .stored; largest = lowest-level; time = refl })
 
 module _ (peak speechLevel : Float) (s : Peaks) (h : passes s ≡ true) (p : level peak ≡ true) (l : level speechLevel ≡ true) where
   -- the largest peak with this one in it, whether it is pushed, and the ring and the largest peak after that
@@ -57,16 +58,18 @@ module _ (peak speechLevel : Float) (s : Peaks) (h : passes s ≡ true) (p : lev
   push-passes : Ring.passes (Ring.push (s .ring) new) ≡ true
   push-passes =
       let r = passed s h .ring in
-      ap Ring.passes (sym (pushed-ring (s .ring) new r (level-finite new new-level))) ∙ Rings.pushed-passes (s .ring) r new
+      ap Ring.passes (sym (pushed-ring Ring.capacity (s .ring) new r (level-finite new new-level))) ∙ Rings.pushed-passes Ring.capacity (s .ring) r new
 
-  push-levels : allLevels (Ring.push (s .ring) new .stored) ≡ true
-  unfolding Ring.push
-  push-levels = levels-set (s .ring .stored) (s .ring .place) new (passed s h .stored) new-level
+  push-levels : allLevels (Ring.slots (Ring.push (s .ring) new)) ≡ true
+  unfolding Ring.pushOf
+  push-levels =
+      rw (take-set-lt Ring.capacity (s .ring .stored) (s .ring .place) new (Rings.within Ring.capacity (s .ring) (passed s h .ring) .place))
+      (levels-set (Ring.slots (s .ring)) (s .ring .place) new (passed s h .stored) new-level)
 
-  ring-levels : allLevels (ring .stored) ≡ true
+  ring-levels : allLevels (Ring.slots ring) ≡ true
   ring-levels = go due
     where
-      go : (b : Bool) → allLevels (cond b (Ring.push (s .ring) new) (s .ring) .stored) ≡ true
+      go : (b : Bool) → allLevels (Ring.slots (cond b (Ring.push (s .ring) new) (s .ring))) ≡ true
       go true = push-levels
       go false = passed s h .stored
 
@@ -78,7 +81,7 @@ module _ (peak speechLevel : Float) (s : Peaks) (h : passes s ≡ true) (p : lev
   unfolding advanced
   advanced-in =
       let oldest = oldestOr (Ring.items ring) largest in
-      let o = level-finite oldest (oldest-level (Ring.items ring) largest (items-levels ring ring-levels) largest-level) in
+      let o = level-finite oldest (oldest-level (Ring.items ring) largest (items-levels Ring.capacity ring ring-levels) largest-level) in
       nearer-in (s .headroom) (sub binary32 oldest speechLevel) (passed s h .headroom)
       (sub-real oldest speechLevel (so o) (finite-real speechLevel (so (level-finite speechLevel l))))
 
@@ -98,7 +101,7 @@ module _ (peak speechLevel : Float) (s : Peaks) (h : passes s ≡ true) (p : lev
       passing (advanced peak speechLevel s)
       (record {
         headroom = in-headroom (advanced peak speechLevel s .headroom) advanced-in;
-        ring = either-passes due (Ring.push (s .ring) new) (s .ring) push-passes (passed s h .ring);
+        ring = either-passes Ring.capacity due (Ring.push (s .ring) new) (s .ring) push-passes (passed s h .ring);
         stored = ring-levels;
         largest = largest-level;
         time = later;

@@ -48,7 +48,7 @@ larger-level x y h k = go (lt x y)
 pub record Passed (s : State) : Type 0 where
   pub headroom : headroom (s .headroom) ≡ true
   pub ring : Ring.passes (s .ring) ≡ true
-  pub stored : allLevels (s .ring .stored) ≡ true
+  pub stored : allLevels (Ring.slots (s .ring)) ≡ true
   pub largest : level (s .largest) ≡ true
   pub time : time (s .elapsed) ≡ true
 

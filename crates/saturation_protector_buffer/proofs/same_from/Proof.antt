@@ -10,6 +10,7 @@ use lib.ListN.{length, drop, getD, drop-of-length-le}
 use borrow.Author.Needs.{needs}
 use Rattle.lists.specs.Stores.{next}
 use Rattle.saturation_protector_buffer.specs.Rings.{sameItems}
+use Rattle.saturation_protector_buffer.specs.Ring.{capacity}
 use Rattle.saturation_protector_buffer.specs.Steps.{round}
 use Rattle.saturation_protector_buffer.specs.Laws.Places.{length-round, round-at}
 use Rattle.saturation_protector_buffer.proofs.same_from.Statement.{statement}
@@ -30,7 +31,7 @@ none-left b xs ys i h k = rw (drop-of-length-le xs h, drop-of-length-le ys k) (a
 
 abbrev Inv-loop : tie.InvT-loop
 Inv-loop from other size xs ys same₀ i₀ same i =
-    (i ≤ size) × (same && sameItems (drop i (round xs from size)) (drop i (round ys other size)) ≡ sameItems (round xs from size) (round ys other size))
+    (i ≤ size) × (same && sameItems (drop i (round capacity xs from size)) (drop i (round capacity ys other size)) ≡ sameItems (round capacity xs from size) (round capacity ys other size))
 
 abbrev μ-loop : tie.MeasureT-loop
 μ-loop from other size xs ys same₀ i₀ same i = size - i
@@ -66,17 +67,17 @@ loop-again : tie.Need-loop-again Inv-loop μ-loop
 loop-again c =
     let at = c .before .before .args in
     let i = c .before .loop .i in
-    let xs = round (at .t1) (at .from) (at .size) in
-    let ys = round (at .t3) (at .other) (at .size) in
+    let xs = round capacity (at .t1) (at .from) (at .size) in
+    let ys = round capacity (at .t3) (at .other) (at .size) in
     let pre = c .before .before .pre in
-    let one : length (at .t1) ≡ 4 = search needs in
-    let two : length (at .t3) ≡ 4 = search needs in
-    let long-xs : length xs ≡ at .size = length-round 4 (at .t1) (at .from) one (pre .0) (at .size) (pre .2) in
-    let long-ys : length ys ≡ at .size = length-round 4 (at .t3) (at .other) two (pre .1) (at .size) (pre .2) in (
+    let one : capacity ≤ length (at .t1) = search needs in
+    let two : capacity ≤ length (at .t3) = search needs in
+    let long-xs : length xs ≡ at .size = length-round capacity (at .t1) (at .from) one (pre .0) (at .size) (pre .2) in
+    let long-ys : length ys ≡ at .size = length-round capacity (at .t3) (at .other) two (pre .1) (at .size) (pre .2) in (
       omega arith,
       one-more (c .before .loop .same) xs ys i _ _ (omega arith) (omega arith)
-          (round-at 4 (at .t1) (at .from) one (pre .0) (at .size) i nan (pre .2) (omega arith))
-          (round-at 4 (at .t3) (at .other) two (pre .1) (at .size) i nan (pre .2) (omega arith))
+          (round-at capacity (at .t1) (at .from) one (pre .0) (at .size) i nan (pre .2) (omega arith))
+          (round-at capacity (at .t3) (at .other) two (pre .1) (at .size) i nan (pre .2) (omega arith))
           ∙ c .before .loop .inv .1,
     )
 
@@ -84,13 +85,13 @@ returns : tie.Need-returns Inv-loop μ-loop
 returns c =
     let at = c .before .before .args in
     let i = c .before .loop .i in
-    let xs = round (at .t1) (at .from) (at .size) in
-    let ys = round (at .t3) (at .other) (at .size) in
+    let xs = round capacity (at .t1) (at .from) (at .size) in
+    let ys = round capacity (at .t3) (at .other) (at .size) in
     let pre = c .before .before .pre in
-    let one : length (at .t1) ≡ 4 = search needs in
-    let two : length (at .t3) ≡ 4 = search needs in
-    let long-xs : length xs ≡ at .size = length-round 4 (at .t1) (at .from) one (pre .0) (at .size) (pre .2) in
-    let long-ys : length ys ≡ at .size = length-round 4 (at .t3) (at .other) two (pre .1) (at .size) (pre .2) in
+    let one : capacity ≤ length (at .t1) = search needs in
+    let two : capacity ≤ length (at .t3) = search needs in
+    let long-xs : length xs ≡ at .size = length-round capacity (at .t1) (at .from) one (pre .0) (at .size) (pre .2) in
+    let long-ys : length ys ≡ at .size = length-round capacity (at .t3) (at .other) two (pre .1) (at .size) (pre .2) in
     sym (none-left (c .before .loop .same) xs ys i (omega arith) (omega arith)) ∙ c .before .loop .inv .1
 
 pub same-from-spec : {M : Type 1} → statement M

@@ -1,10 +1,11 @@
 -- `saturation_protector_buffer::same_items` meets its contract: the items of each ring are its storage round from its front index. Assumes nothing.
 use mathlib.Core.Path.{_≡_, sym, ap, ap₂, _∙_}
 use Prim.Native.Nat.{ℕ}
+use native.Mathlib.Omega.{arith}
 use lib.ListN.{length}
 use borrow.Author.Needs.{needs}
 use Rattle.saturation_protector_buffer.specs.Rings.{start as front, sameItems}
-use Rattle.saturation_protector_buffer.specs.Ring.{capacity, items}
+use Rattle.saturation_protector_buffer.specs.Ring.{capacity, storage, itemsOf, items}
 use Rattle.saturation_protector_buffer.specs.Steps.{round}
 use Rattle.saturation_protector_buffer.specs.Laws.Places.{start-inside, length-items}
 use Rattle.saturation_protector_buffer.specs.Laws.Same.{not-as-many}
@@ -28,26 +29,26 @@ same-from-requires c κs =
     )
 
 returns : tie.Need-returns
-unfolding items round
+unfolding itemsOf round
 returns c =
     let start = c .before .before .before .before .before .before .before in
     let a = start .args .a in
     let b = start .args .b in
     let two = c .before .before .before in
     c .same-from .ensures
-    ∙ ap₂ (λ (i j : ℕ). sameItems (round (a .stored) i (a .size)) (round (b .stored) j (a .size))) (two .before .front-index .ensures) (two .front-index2 .ensures)
-    ∙ ap (λ (k : ℕ). sameItems (items a) (round (b .stored) (front capacity (b .place) (b .size)) k)) (c .before .if1 .taken)
+    ∙ ap₂ (λ (i j : ℕ). sameItems (round capacity (a .stored) i (a .size)) (round capacity (b .stored) j (a .size))) (two .before .front-index .ensures) (two .front-index2 .ensures)
+    ∙ ap (λ (k : ℕ). sameItems (items a) (round capacity (b .stored) (front capacity (b .place) (b .size)) k)) (c .before .if1 .taken)
 
 returns-2 : tie.Need-returns-2
-unfolding items
+unfolding itemsOf
 returns-2 c =
     let start = c .before .before .before .before .before .before in
     let a = start .args .a in
     let b = start .args .b in
-    let long-a : length (a .stored) ≡ 4 = search needs in
-    let long-b : length (b .stored) ≡ 4 = search needs in
-    let as-many-a = length-items capacity (a .stored) (a .place) (a .size) long-a (start .pre .0 .place) (start .pre .0 .size) in
-    let as-many-b = length-items capacity (b .stored) (b .place) (b .size) long-b (start .pre .1 .place) (start .pre .1 .size) in
+    let slots-a : length (a .stored) ≡ storage = search needs in
+    let slots-b : length (b .stored) ≡ storage = search needs in
+    let as-many-a = length-items capacity (a .stored) (a .place) (a .size) (omega arith) (start .pre .0 .place) (start .pre .0 .size) in
+    let as-many-b = length-items capacity (b .stored) (b .place) (b .size) (omega arith) (start .pre .1 .place) (start .pre .1 .size) in
     sym (not-as-many (items a) (items b) (λ e. c .if1 .left (sym as-many-a ∙ e ∙ as-many-b)))
 
 pub same-items-spec : {M : Type 1} → statement M

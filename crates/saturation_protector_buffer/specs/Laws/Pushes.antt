@@ -1,4 +1,4 @@
--- A push into a ring over any size n: it keeps the last n items. Laws; `Sound` is what every ring from a new one on keeps.
+-- A push into a ring over any size n, in a storage of at least n slots: it keeps the last n items. Laws; `Sound` is what every ring from a new one on keeps.
 -- Assumes nothing.
 use mathlib.Core.Path.{_≡_, sym, ap, ap₂, _∙_}
 use mathlib.Core.List.{List, [], _∷_, _++_, append-nil, append-assoc}
@@ -8,16 +8,16 @@ use native.Mathlib.Nat.{eq-or-lt-of-le}
 use native.Mathlib.Numerals.{add-one}
 use native.Mathlib.Omega.{arith}
 use lib.ListN.{length, getD, set, take, drop, length-append, length-drop, length-set, drop-of-length-le}
-use lib.Seq.{length-take-le, take-all, take-suc-set, drop-append-le, drop-drop}
+use lib.Seq.{length-take-le, take-all, take-take, take-suc-set, take-set-lt, drop-append-le, drop-drop}
 use lib.Ieee.{Float, nan}
 use borrow.Author.Tests.{lt-ltb, le-ltb, eq-eqb, ne-eqb}
 use Rattle.lists.specs.Stores.{next, after-store}
-use Rattle.saturation_protector_buffer.specs.Rings.{after, more, start, items, lastOf}
+use Rattle.saturation_protector_buffer.specs.Rings.{slots, after, more, start, items, lastOf}
 use Rattle.saturation_protector_buffer.specs.Laws.Places.{start-full, start-early}
 
--- a storage of n, place and size in their ranges, and until the ring is full the next one goes after those that are there
+-- a storage of at least n, place and size in their ranges, and until the ring is full the next one goes after those that are there
 pub record Sound (n : ℕ) (stored : List Float) (place size : ℕ) : Type 0 where
-  pub long : length stored ≡ n
+  pub long : n ≤ length stored
   pub inside : place < n
   pub most : size ≤ n
   pub early : size < n → place ≡ size
@@ -82,18 +82,20 @@ more-most n size h =
 
 -- ---- the items
 -- the items of a ring that starts at 0
-items-from-0 : (n : ℕ) (stored : List Float) (place size : ℕ) → start n place size ≡ 0 → items n stored place size ≡ take size stored
+items-from-0 : (n : ℕ) (stored : List Float) (place size : ℕ) → start n place size ≡ 0 → size ≤ n → items n stored place size ≡ take size stored
 unfolding items
-items-from-0 n stored place size e = rw (e, append-nil)
+items-from-0 n stored place size e h = rw (e, append-nil) (take-take size n stored h)
 
--- the items of a full ring
-items-full : (n : ℕ) (stored : List Float) (place size : ℕ) → size ≡ n → length stored ≡ n → place ≤ n
-    → items n stored place size ≡ drop place stored ++ take place stored
+-- the items of a full ring: all of its slots, from the place on
+items-full : (n : ℕ) (stored : List Float) (place size : ℕ) → size ≡ n → n ≤ length stored → place ≤ n
+    → items n stored place size ≡ drop place (slots n stored) ++ take place (slots n stored)
 unfolding items
 items-full n stored place size e long h =
+    let whole = length-take-le n stored long in
     rw (start-full n place size e)
-    (take-all size (drop place stored ++ take place stored)
-    (omega (arith, length-append (drop place stored) (take place stored), length-drop place stored, length-take-le place stored (omega arith))))
+    (take-all size (drop place (slots n stored) ++ take place (slots n stored))
+    (omega
+    (arith, length-append (drop place (slots n stored)) (take place (slots n stored)), length-drop place (slots n stored), length-take-le place (slots n stored) (omega arith))))
 
 module _ (n : ℕ) (stored : List Float) (place size : ℕ) (v : Float) (s : Sound n stored place size) where
   -- where the next ring starts while this one is not full
@@ -110,20 +112,28 @@ module _ (n : ℕ) (stored : List Float) (place size : ℕ) (v : Float) (s : Sou
   early-push : size < n → items n (set stored place v) (after n place) (more n size) ≡ lastOf n (items n stored place size ++ (v ∷ []))
   early-push h =
       let here : place ≡ size = s .early h in
-      let before : items n stored place size ≡ take size stored = items-from-0 n stored place size (start-early n place size h) in
+      let before : items n stored place size ≡ take size stored = items-from-0 n stored place size (start-early n place size h) (s .most) in
       let size-now = length-append (take size stored) (v ∷ []) in
-      items-from-0 n (set stored place v) (after n place) (more n size) (starts h)
+      items-from-0 n (set stored place v) (after n place) (more n size) (starts h) (more-most n size (s .most))
       ∙ ap₂ (λ (j k : ℕ). take j (set stored k v)) (more-early n size h ∙ add-one size) here
       ∙ take-suc-set stored size v (omega (arith, s .long))
       ∙ sym (last-short n (take size stored ++ (v ∷ [])) (omega (arith, size-now, length-take-le size stored (omega (arith, s .long)))))
       ∙ ap (λ (xs : List Float). lastOf n (xs ++ (v ∷ []))) (sym before)
 
-  -- once round: to start at the end of the storage is to start at its beginning
-  round-again : drop (after n place) (set stored place v) ++ take (after n place) (set stored place v)
-      ≡ drop (place + 1) (set stored place v) ++ take (place + 1) (set stored place v)
+  -- the slots are those before, with the new one at the place
+  stored-there : slots n (set stored place v) ≡ set (slots n stored) place v
+  stored-there = take-set-lt n stored place v (s .inside)
+
+  -- there are n of them
+  whole : length (slots n stored) ≡ n
+  whole = length-take-le n stored (s .long)
+
+  -- once round: to start after the last slot is to start at the first
+  round-again : drop (after n place) (set (slots n stored) place v) ++ take (after n place) (set (slots n stored) place v)
+      ≡ drop (place + 1) (set (slots n stored) place v) ++ take (place + 1) (set (slots n stored) place v)
   round-again =
-      let now = set stored place v in
-      let long : length now ≡ n = length-set stored place v ∙ s .long in
+      let now = set (slots n stored) place v in
+      let long : length now ≡ n = length-set (slots n stored) place v ∙ whole in
       let room : place + 1 ≤ n = omega (arith, s .inside) in
       ⊎-elim
       (λ e. rw (after-last n place e, append-nil, drop-of-length-le now {i = place + 1} (omega arith), take-all (place + 1) now (omega arith)))
@@ -132,21 +142,23 @@ module _ (n : ℕ) (stored : List Float) (place size : ℕ) (v : Float) (s : Sou
 
   full-push : size ≡ n → items n (set stored place v) (after n place) (more n size) ≡ lastOf n (items n stored place size ++ (v ∷ []))
   full-push e =
-      let now = set stored place v in
-      let ahead = drop (place + 1) stored in
-      let behind = take place stored in
-      let room : place < length stored = omega (arith, s .inside, s .long) in
-      let before : items n stored place size ≡ getD stored place nan ∷ (ahead ++ behind) =
+      let old = slots n stored in
+      let now = set old place v in
+      let ahead = drop (place + 1) old in
+      let behind = take place old in
+      let room : place < length old = omega (arith, s .inside, whole) in
+      let before : items n stored place size ≡ getD old place nan ∷ (ahead ++ behind) =
       items-full n stored place size e (s .long) (omega (arith, s .inside))
-      ∙ ap (λ (xs : List Float). xs ++ behind) (next stored place nan room) in
+      ∙ ap (λ (xs : List Float). xs ++ behind) (next old place nan room) in
       let long : length (ahead ++ behind ++ (v ∷ [])) ≡ n =
-      omega (arith, length-append (ahead ++ behind) (v ∷ []), length-append ahead behind, length-drop (place + 1) stored, length-take-le place stored (omega arith), s .long) in
-      items-full n now (after n place) (more n size) (more-full n size e) (length-set stored place v ∙ s .long)
+      omega (arith, length-append (ahead ++ behind) (v ∷ []), length-append ahead behind, length-drop (place + 1) old, length-take-le place old (omega arith), whole) in
+      items-full n (set stored place v) (after n place) (more n size) (more-full n size e) (omega (arith, length-set stored place v, s .long))
       (omega (arith, after-inside n place (s .inside)))
+      ∙ ap (λ (xs : List Float). drop (after n place) xs ++ take (after n place) xs) stored-there
       ∙ round-again
-      ∙ ap₂ (λ (xs ys : List Float). xs ++ ys) (after-store stored place v) (ap (λ (k : ℕ). take k now) (add-one place) ∙ take-suc-set stored place v room)
+      ∙ ap₂ (λ (xs ys : List Float). xs ++ ys) (after-store old place v) (ap (λ (k : ℕ). take k now) (add-one place) ∙ take-suc-set old place v room)
       ∙ sym (append-assoc ahead behind (v ∷ []))
-      ∙ sym (last-next n (getD stored place nan) (ahead ++ behind ++ (v ∷ [])) long)
+      ∙ sym (last-next n (getD old place nan) (ahead ++ behind ++ (v ∷ [])) long)
       ∙ ap (λ (xs : List Float). lastOf n (xs ++ (v ∷ []))) (sym before)
 
   -- A push: the items are the last n of those before and the new one.
@@ -157,7 +169,7 @@ module _ (n : ℕ) (stored : List Float) (place size : ℕ) (v : Float) (s : Sou
   pub push-sound : Sound n (set stored place v) (after n place) (more n size)
   push-sound =
       record {
-        long = length-set stored place v ∙ s .long;
+        long = omega (arith, length-set stored place v, s .long);
         inside = after-inside n place (s .inside);
         most = more-most n size (s .most);
         early = λ h. ⊎-elim (full-case h) (early-case h) (eq-or-lt-of-le (s .most));

@@ -6,7 +6,7 @@ use lib.Dec.{ltb}
 use lib.Ieee.{Float, binary32, sub}
 use Rattle.floats.specs.Choice.{larger}
 use native.Mathlib.Omega.{arith}
-use Rattle.saturation_protector_buffer.specs.Ring.{passes as passesRing, push, items}
+use Rattle.saturation_protector_buffer.specs.Ring.{capacity, passes as passesRing, push, items}
 use Rattle.saturation_protector_buffer.specs.Laws.Passing.{pushed-passes}
 use Rattle.saturation_protector_buffer.specs.declared.Next.{Next}
 use Rattle.saturation_protector_buffer.specs.declared.Ring.{Ring}
@@ -42,8 +42,8 @@ oldest-or-requires c κs =
     let larger = c .before .before .before .before .before .before .larger .result in
     let pushed = c .before .before .before .before .push-back in
     let ring = passed (at .args .self) (at .pre .0) .ring in
-    let more : passesRing (pushed .result .ring) ≡ true = rw (pushed .ensures) (pushed-passes (at .args .self .ring) ring larger) in
-    rw (c .before .before .pick-ring .ensures) (either-passes (ltb longest (at .args .self .elapsed + frameTime)) (pushed .result .ring) (at .args .self .ring) more ring)
+    let more : passesRing (pushed .result .ring) ≡ true = rw (pushed .ensures) (pushed-passes capacity (at .args .self .ring) ring larger) in
+    rw (c .before .before .pick-ring .ensures) (either-passes capacity (ltb longest (at .args .self .elapsed + frameTime)) (pushed .result .ring) (at .args .self .ring) more ring)
 
 nearer-requires : tie.Need-nearer-requires
 nearer-requires c κs = search needs
@@ -69,7 +69,7 @@ returns c =
     let pushed = c .before .before .before .before .before .before .push-back in
     let with : pushed .result .ring ≡ push (s .ring) (larger .result) =
     ap (λ (n : Next). n .ring) (pushed .ensures)
-    ∙ pushed-ring (s .ring) (larger .result) (p .ring)
+    ∙ pushed-ring capacity (s .ring) (larger .result) (p .ring)
     (level-finite (larger .result) (rw (larger .ensures) (larger-level (s .largest) (at .args .peak) (p .largest) (at .pre .1)))) in
     joined _ _ _ _ _ _ _ _ _ _ (larger .ensures) with (c .before .before .before .before .pick-ring .ensures) (c .before .before .before .pick-f32 .ensures)
     (c .before .before .pick-u32 .ensures) (c .before .oldest-or .ensures) (c .nearer .ensures)

@@ -4,17 +4,17 @@ use Prim.Native.Nat.{_<_}
 use native.Mathlib.Omega.{arith}
 use lib.ListN.{length}
 use borrow.Author.Needs.{needs}
-use Rattle.saturation_protector_buffer.specs.Ring.{said}
+use Rattle.saturation_protector_buffer.specs.Ring.{capacity, storage, said}
 use Rattle.saturation_protector_buffer.specs.Laws.Places.{start-inside}
 use Rattle.saturation_protector_buffer.specs.Laws.Front.{oldest-stored, oldest-none}
 use Rattle.saturation_protector_buffer.proofs.Ring.oldest.Statement.{statement}
 use Rattle.saturation_protector_buffer.proofs.Ring.oldest.Tie as tie
 
 -- the front index lies inside the storage
-inside : (c : tie.After-front-index) → c .front-index .result < 4
+inside : (c : tie.After-front-index) → c .front-index .result < capacity
 inside c =
     let start = c .before .before in
-    rw (c .front-index .ensures) (start-inside 4 (start .args .self .place) (start .args .self .size) (start .pre .place) (start .pre .size))
+    rw (c .front-index .ensures) (start-inside capacity (start .args .self .place) (start .args .self .size) (start .pre .place) (start .pre .size))
 
 front-index-requires : tie.Need-front-index-requires
 front-index-requires c κs = search needs
@@ -23,18 +23,18 @@ mul-t7 : tie.Need-mul-t7
 mul-t7 c = omega (arith, inside (c .before))
 
 array-read-t10 : tie.Need-array-read-t10
-array-read-t10 c = inside (c .before)
+array-read-t10 c = omega (arith, inside (c .before))
 
 returns : tie.Need-returns
 unfolding said
 returns c =
     let start = c .before .before .before in
-    let long : length (start .args .self .stored) ≡ 4 = search needs in
-    rw (c .before .front-index .ensures) (sym (oldest-stored (start .args .self) long (start .pre) (omega arith)))
+    let slots : length (start .args .self .stored) ≡ storage = search needs in
+    rw (c .before .front-index .ensures) (sym (oldest-stored capacity (start .args .self) (omega arith) (start .pre) (omega arith)))
 
 returns-2 : tie.Need-returns-2
 unfolding said
-returns-2 c = sym (oldest-none (c .before .before .before .args .self) (c .if1 .left))
+returns-2 c = sym (oldest-none capacity (c .before .before .before .args .self) (c .if1 .left))
 
 pub oldest-spec : {M : Type 1} → statement M
 oldest-spec = tie.close (tie.spec front-index-requires mul-t7 array-read-t10 returns returns-2)

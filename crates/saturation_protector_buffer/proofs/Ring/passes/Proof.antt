@@ -1,6 +1,6 @@
 -- `saturation_protector_buffer::Ring::passes` meets its contract. Assumes nothing.
 use borrow.Author.Needs.{needs}
-use Rattle.saturation_protector_buffer.specs.Ring.{passes}
+use Rattle.saturation_protector_buffer.specs.Ring.{passesOf}
 use Rattle.saturation_protector_buffer.proofs.Ring.passes.Statement.{statement}
 use Rattle.saturation_protector_buffer.proofs.Ring.passes.Tie as tie
 
@@ -8,7 +8,7 @@ are-finite-requires : tie.Need-are-finite-requires
 are-finite-requires c κs = search needs
 
 returns : tie.Need-returns
-unfolding passes
+unfolding passesOf
 returns c = rw (c .are-finite .ensures)
 
 pub passes-spec : {M : Type 1} → statement M

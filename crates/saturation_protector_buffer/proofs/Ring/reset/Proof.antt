@@ -3,7 +3,7 @@ use mathlib.Core.Bool.{Bool, true, false, cond}
 use mathlib.Core.Path.{_≡_, refl}
 use borrow.Author.Needs.{needs}
 use Rattle.saturation_protector_buffer.specs.Ring.{passes, reset}
-use Rattle.saturation_protector_buffer.specs.Calls.{forgotten}
+use Rattle.saturation_protector_buffer.specs.Calls.{forgottenOf}
 use Rattle.saturation_protector_buffer.specs.declared.Ring.{Ring}
 use Rattle.saturation_protector_buffer.proofs.Ring.reset.Statement.{statement}
 use Rattle.saturation_protector_buffer.proofs.Ring.reset.Tie as tie
@@ -27,7 +27,7 @@ chosen true r = refl
 chosen false r = refl
 
 returns : tie.Need-returns
-unfolding forgotten
+unfolding forgottenOf
 returns c =
     let tests = c .before .before in
     let r = tests .before .before .before .args .self in

@@ -1,6 +1,6 @@
 -- `saturation_protector_buffer::Ring::store` meets its contract. Assumes nothing.
 use borrow.Author.Needs.{needs}
-use Rattle.saturation_protector_buffer.specs.Ring.{push}
+use Rattle.saturation_protector_buffer.specs.Ring.{pushOf}
 use Rattle.saturation_protector_buffer.proofs.Ring.store.Statement.{statement}
 use Rattle.saturation_protector_buffer.proofs.Ring.store.Tie as tie
 
@@ -23,7 +23,7 @@ pick-usize-requires-2 : tie.Need-pick-usize-requires-2
 pick-usize-requires-2 c κs = search needs
 
 returns : tie.Need-returns
-unfolding push
+unfolding pushOf
 returns c = rw (c .pick-usize2 .ensures, c .before .pick-usize .ensures)
 
 pub store-spec : {M : Type 1} → statement M
