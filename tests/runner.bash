@@ -38,19 +38,20 @@ end_session() { # SESSION
         found=no
         for process in /proc/[0-9]*; do
             stat=
-            { read -r -d '' stat <"$process/stat"; } 2>/dev/null
+            read -r -d '' stat <"$process/stat"
             # Behind the name, which stands in brackets: the state (Z: it has ended), the parent, the group, the session.
             read -r -a words <<<"${stat##*) }"
             if [ "${words[3]-}" = "$1" ] && [ "${words[0]}" != Z ]; then
-                kill -KILL "${process#/proc/}" 2>/dev/null
+                kill -KILL "${process#/proc/}"
                 found=yes
             fi
         done
         [ "$found" = yes ] || break
         sleep 0.1
     done
+    wait "$1"
     unset "ends[$1]"
-}
+} 2>/dev/null
 
 # Ends all that was started: for the end of the shell, however that comes.
 end_sessions() {

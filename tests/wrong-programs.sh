@@ -5,7 +5,7 @@ cd "$(dirname "$0")/.." || exit 1
 . tests/check.bash
 room=$(mktemp -d)
 trap 'rm -rf "$room"' EXIT
-mkdir -p "$room/tests" "$room/crates/laws/"{src,specs,wrong}
+mkdir -p "$room/tests" "$room/crates/laws/"{src,specs,wrong,must-fail}
 cp tests/wrong-programs "$room/tests"
 cp -r crates/bits "$room/crates"
 rm -f "$room"/crates/bits/wrong/*
@@ -38,6 +38,7 @@ law right 'n + n' '(n + n)'
 law named 'n + n' 'n + m'
 law typed '= n + n' '= twice ≡ n'
 law unread 'n + n' '(n + n'
+cp "$room"/crates/laws/{wrong,must-fail}/named.edit
 
 said() { grep -c "^$1" "$room/said"; }
 told() { # WHAT CRATE/EDIT VERDICT [WHY]
@@ -45,7 +46,7 @@ told() { # WHAT CRATE/EDIT VERDICT [WHY]
 }
 (cd "$room" && exec tests/wrong-programs --until ended) >"$room/said" &
 (cd "$room" && rt ci) >"$room/ci" 2>&1
-same "wrong programs: rt ci beside it passes, with the edit in must-fail" "0 3 passed, 0 failed" "$? $(tail -n 1 "$room/ci")"
+same "wrong programs: rt ci beside it passes, with the edits in must-fail" "0 4 passed, 0 failed" "$? $(tail -n 1 "$room/ci")"
 touch "$room/ended"
 wait $!
 same "wrong programs: one that is right makes it fail" 1 $?
@@ -60,9 +61,11 @@ told "a definition that is right is told not to be" laws/right "not ok" "is not 
 told "a definition that lacks a name is told" laws/named "not ok" "is refused for a name.*"
 told "a definition that has no meaning is told" laws/typed "not ok" "is refused for how it is written.*"
 told "a definition that cannot be read is told" laws/unread "not ok" "is refused for how it is written.*"
+same "wrong programs: of the edit in must-fail it tells that rt ci refused it for a fact" 1 "$(said 'ok must-fail bits/bits_of_a_nan was refused by rt ci for a fact')"
+same "wrong programs: of one that rt ci refused for a name it tells that" 1 "$(said 'not ok must-fail laws/named is refused for a name')"
 same "wrong programs: each edit has one line" 11 "$(said '\(ok\|not ok\) wrong program ')"
-same "wrong programs: its logs and those of rt ci stand apart" "bits bits laws 10" \
-    "$(cd "$room/target" && echo "$(ls must-fail)" "$(ls wrong | tr '\n' ' ')$(ls wrong/* | grep -c log)")"
+same "wrong programs: its logs and those of rt ci stand apart" "bits laws bits laws 10" \
+    "$(cd "$room/target" && echo $(ls must-fail) $(ls wrong) $(ls wrong/* | grep -c log))"
 rm "$room"/crates/bits/wrong/{below,right,named,twice}.edit "$room"/crates/laws/wrong/*
 (cd "$room" && tests/wrong-programs) >"$room/said"
 same "wrong programs: a wrong one alone ends well" "0 1" "$? $(said 'ok wrong program bits/wrong is refused')"
