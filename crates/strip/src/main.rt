@@ -39,7 +39,7 @@ fn print(run: Run, length: usize, out: &[u8]) -> Turn {
 }
 
 // Reads a block, takes it and writes its lines. At the input's end nothing is read, which ends the run.
-fn turn(run: Run, block: &mut [u8], out: &mut [u8]) -> Turn {
+fn take_turn(run: Run, block: &mut [u8], out: &mut [u8]) -> Turn {
     let got = libc::read(libc::STDIN_FILENO, block);
     if got < 0 {
         os::fail(b"strip: standard input");
@@ -68,7 +68,7 @@ fn main() {
     let mut now = Turn { run, more: true };
     let mut turns = u64::MAX;
     while (turns > 0) & now.more {
-        now = turn(now.run, &mut block, &mut out);
+        now = take_turn(now.run, &mut block, &mut out);
         turns -= 1;
     }
 }
