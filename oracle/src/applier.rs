@@ -108,7 +108,8 @@ impl State {
 /// The Rust's applier with this state: made at the last factor, sent over silence for its samples, and
 /// given the current factor.
 pub fn published(state: &State) -> Option<Published> {
-    if !state.passes() {
+    // The test may be without a clause: then too no more samples are made than a channel has.
+    if !state.passes() || state.samples > 480 {
         return None;
     }
     let mut made = Published::new(state.clip, state.last);
@@ -306,12 +307,16 @@ impl Player for Desk {
         }
     }
 
+    fn edges(&self) -> Edges {
+        edges()
+    }
+
     fn amiss(&self) -> Vec<String> {
         edges().amiss(&[], &clauses_of)
     }
 
-    fn at_edge(&mut self, which: usize, to: Ask) -> Option<bool> {
-        match *edges().all.get(which)?.figures {
+    fn at_edge(&mut self, figures: &[u32], to: Ask) -> Option<bool> {
+        match *figures {
             [clip, last, current, samples, inverse] => Some(self.set(State::read([clip, last, current, samples, inverse]), to)),
             _ => None,
         }

@@ -14,7 +14,7 @@
 //! The Rust as it stands goes along, and shows how far the two power functions bring whole chains apart.
 
 use crate::applier::LARGEST;
-use crate::clauses::{self, Clause, Edge, Edges, MINUS_ZERO};
+use crate::clauses::{self, Clause, Edges, MINUS_ZERO};
 use crate::drive::{Ask, Length, Part};
 use crate::judge::{self, Departure, Settings, ENVELOPE, LEVEL, RMS};
 use crate::lines::{self, bits, DONE, FIGURE, SAMPLE, SETTING, SHAPE};
@@ -609,12 +609,12 @@ impl Desk {
         self.step(&figures, &frame, to).is_some()
     }
 
-    /// The states at the edges of the test, or some of them, each with a good frame, one with a wrong figure and a
-    /// wrong sample, one of a wrong length, and what it is then.
-    fn at_edges(&mut self, some: &dyn Fn(&Edge) -> bool, source: &mut Random, to: Ask) -> bool {
+    /// The states at the edges of the test, each with a good frame, one with a wrong figure and a wrong sample, one of a
+    /// wrong length, and what it is then; or a few of them, each with a good frame.
+    fn at_edges(&mut self, few: bool, source: &mut Random, to: Ask) -> bool {
         let edges = edges();
         self.unlike.extend(edges.amiss(&IMPLIED, &clauses_of));
-        edges.all.iter().filter(|edge| some(edge)).all(|edge| {
+        edges.some(few).iter().all(|edge| {
             self.at_edges += 1;
             let going = self.set(&edge.figures, to).unwrap_or(true);
             let samples = Some(self.state.limiter.estimator.samples).filter(|&n| sound::is_samples(n)).unwrap_or(40);
@@ -627,8 +627,7 @@ impl Desk {
             figures[1] = 0x7fc0_0000;
             going
                 && self.step(&GOOD, &good, to).is_some()
-                && self.step(&figures, &wrong, to).is_some()
-                && self.step(&figures, &short, to).is_some()
+                && (few || self.step(&figures, &wrong, to).is_some() && self.step(&figures, &short, to).is_some())
                 && self.look(to)
         })
     }
@@ -690,17 +689,7 @@ pub fn list(seed: u64, to: Ask) -> Vec<String> {
     let source = &mut Random::new(seed);
     let mut desk = Desk::default();
     desk.damaged(source, to);
-    // Of each clause one state that lies inside, and one that fails in it.
-    let seen = std::cell::RefCell::new(Vec::new());
-    desk.at_edges(
-        &|edge| {
-            let new = !seen.borrow().contains(&(edge.clause, edge.inside));
-            seen.borrow_mut().push((edge.clause, edge.inside));
-            new
-        },
-        source,
-        to,
-    );
+    desk.at_edges(true, source, to);
     for (threshold, channels, samples, frames) in [(1, 1, 40, 6), (2, 1, 40, 20), (3, 2, 40, 20)] {
         let steps = desk.steps(threshold, channels, samples, frames, source);
         let steps = &steps[..steps.len().min(60)];
@@ -736,7 +725,7 @@ impl Part for Chains {
         let desk = &mut self.desk;
         let wanted = self.length.of(10_000, 1_000_000, 80_000);
         let mut going = self.length == Length::Round
-            || (desk.damaged(source, to) && desk.at_edges(&|_| true, &mut Random::new(self.seed), to));
+            || (desk.damaged(source, to) && desk.at_edges(false, &mut Random::new(self.seed), to));
         if self.length == Length::States {
             return;
         }

@@ -98,6 +98,18 @@ impl Edges {
         }
     }
 
+    /// All of them; or a few, for the fixed list: of each clause one that lies inside and two that do not.
+    pub fn some(&self, few: bool) -> Vec<Edge> {
+        let mut all: Vec<Edge> = Vec::new();
+        for edge in &self.all {
+            let before = all.iter().filter(|other| other.clause == edge.clause && other.inside == edge.inside).count();
+            if !few || before <= !edge.inside as usize {
+                all.push(edge.clone());
+            }
+        }
+        all
+    }
+
     /// The names of a part's clauses, but for those that others imply.
     pub fn names(&self, implied: &[&str], test: &dyn Fn(&[u32]) -> Option<Vec<Clause>>) -> Vec<&'static str> {
         let all = test(&self.good).unwrap_or_default();

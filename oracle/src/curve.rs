@@ -338,11 +338,11 @@ fn clauses_of(figures: &[u32]) -> Option<Vec<Clause>> {
     Some(State::read(figures)?.clauses())
 }
 
-/// Each state at an edge of the test, with every call.
-fn at_edges(desk: &mut Desk, to: Ask) -> bool {
+/// Each state at an edge of the test, or a few of them, with every call.
+fn at_edges(desk: &mut Desk, few: bool, to: Ask) -> bool {
     let edges = edges();
     desk.unlike.extend(edges.amiss(&[], &clauses_of));
-    edges.all.iter().all(|edge| {
+    edges.some(few).iter().all(|edge| {
         let state = State::read(&edge.figures).unwrap_or(FRESH);
         desk.set(state, to)
             && desk.stats(to)
@@ -388,7 +388,7 @@ pub fn list(seed: u64, to: Ask) -> Vec<String> {
         desk.level(0, to);
         desk.level(0x7fc0_0000, to);
     }
-    at_edges(&mut desk, to);
+    at_edges(&mut desk, true, to);
     desk.fresh(to);
     sequence(&mut desk, &mut Random::new(seed), 300, to);
     desk.unlike
@@ -426,7 +426,7 @@ impl Part for Curves {
         near.extend(near_places(4));
         if self.length == Length::Round {
             near.clear();
-        } else if !(at_edges(&mut self.desk, to) && self.length != Length::States && self.desk.fresh(to)) {
+        } else if !(at_edges(&mut self.desk, false, to) && self.length != Length::States && self.desk.fresh(to)) {
             return;
         }
         for level in near {

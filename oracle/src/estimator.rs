@@ -325,12 +325,16 @@ impl Player for Desk {
         }
     }
 
+    fn edges(&self) -> Edges {
+        edges()
+    }
+
     fn amiss(&self) -> Vec<String> {
         edges().amiss(&[], &clauses_of)
     }
 
-    fn at_edge(&mut self, which: usize, to: Ask) -> Option<bool> {
-        match *edges().all.get(which)?.figures {
+    fn at_edge(&mut self, figures: &[u32], to: Ask) -> Option<bool> {
+        match *figures {
             [level, samples, part] => Some(self.set(level, [samples, part], to)),
             _ => None,
         }

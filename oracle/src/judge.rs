@@ -345,10 +345,11 @@ pub trait Judge {
     fn each_setting(&mut self, source: &mut Random, to: Ask) -> bool;
     /// Notes what is amiss with the comparison itself.
     fn object(&mut self, why: Vec<String>);
-    /// What is amiss with the states below.
+    /// The states at the edges of the test, and what is amiss with them.
+    fn edges(&self) -> Edges;
     fn amiss(&self) -> Vec<String>;
-    /// Hands in one of the states at the edges of the test; none where there are no more.
-    fn at_edge(&mut self, which: usize, to: Ask) -> Option<bool>;
+    /// Hands in the state with these figures; none where there is no such state.
+    fn at_edge(&mut self, figures: &[u32], to: Ask) -> Option<bool>;
     /// Each call that a failing state refuses.
     fn refuse(&mut self, source: &mut Random, to: Ask) -> bool;
 }
@@ -419,16 +420,15 @@ fn runs(judge: &mut dyn Judge, threshold: u32, frames: usize, source: &mut Rando
     going
 }
 
-/// Each state at an edge of the test, inside and outside, with every call.
-fn at_edges(judge: &mut dyn Judge, source: &mut Random, to: Ask) -> bool {
+/// Each state at an edge of the test, inside and outside, or a few of them, with every call.
+fn at_edges(judge: &mut dyn Judge, few: bool, source: &mut Random, to: Ask) -> bool {
     let amiss = judge.amiss();
     judge.object(amiss);
-    let mut which = 0;
-    while let Some(going) = judge.at_edge(which, to) {
+    for edge in judge.edges().some(few) {
+        let going = judge.at_edge(&edge.figures, to).unwrap_or(true);
         if !going || !judge.refuse(source, to) {
             return false;
         }
-        which += 1;
     }
     true
 }
@@ -438,24 +438,24 @@ pub fn play(judge: &mut dyn Judge, seed: u64, length: Length, frames: usize, to:
     let source = &mut Random::new(seed);
     let fixed = length != Length::Round;
     if length == Length::States {
-        return at_edges(judge, source, to);
+        return at_edges(judge, false, source, to);
     }
     judge.renew(2, source, to)
         && (!fixed || judge.each_figure(source, to))
         && (!fixed || judge.each_setting(source, to))
-        && (!fixed || at_edges(judge, source, to))
+        && (!fixed || at_edges(judge, false, source, to))
         && THRESHOLDS.iter().all(|&t| boundaries(judge, t, source, to))
         && THRESHOLDS.iter().all(|&t| runs(judge, t, frames / THRESHOLDS.len(), source, to))
 }
 
-/// The questions of the fixed list that all have: each figure's ends, each setting's, the states at the edges of the
+/// The questions of the fixed list that all have: each figure's ends, each setting's, states at the edges of the
 /// test, and runs of some thresholds.
 pub fn list(judge: &mut dyn Judge, seed: u64, thresholds: &[u32], to: Ask) {
     let source = &mut Random::new(seed);
     judge.renew(2, source, to);
     judge.each_figure(source, to);
     judge.each_setting(source, to);
-    at_edges(judge, source, to);
+    at_edges(judge, true, source, to);
     for &t in thresholds {
         judge.renew(t, source, to);
         for length in [t - 1, t - 1, t, t, t + 1, t + 1] {

@@ -213,6 +213,7 @@ fn wanted(seed: u64, length: Length, only: &Option<String>) -> Vec<Box<dyn Part>
 
 fn compare(wish: &Wish) -> usize {
     let mut all = wanted(wish.seed, wish.length, &wish.only);
+    all.retain(|part| wish.length != Length::States || !part.clauses().is_empty());
     all.iter_mut().map(|part| compare_part(wish, part.as_mut())).sum()
 }
 

@@ -516,12 +516,16 @@ impl Judge for Desk {
             })
     }
 
+    fn edges(&self) -> Edges {
+        edges()
+    }
+
     fn amiss(&self) -> Vec<String> {
         edges().amiss(&[], &clauses_of)
     }
 
-    fn at_edge(&mut self, which: usize, to: Ask) -> Option<bool> {
-        let state = State::read(&edges().all.get(which)?.figures)?;
+    fn at_edge(&mut self, figures: &[u32], to: Ask) -> Option<bool> {
+        let state = State::read(figures)?;
         Some(self.set(state, to))
     }
 

@@ -63,7 +63,7 @@ impl Ring {
     /// The items, oldest first.
     fn items(&self) -> Vec<f32> {
         let first = if self.size == CAPACITY { self.next } else { 0 };
-        (0..self.size).map(|i| self.buffer[(first + i) % CAPACITY]).collect()
+        (0..self.size.min(CAPACITY)).map(|i| self.buffer[(first + i) % CAPACITY]).collect()
     }
 
     fn figures(&self) -> Vec<u32> {
@@ -383,11 +383,11 @@ fn clauses_of(figures: &[u32]) -> Option<Vec<Clause>> {
     Some(Ring::read(figures)?.clauses())
 }
 
-/// Each ring at an edge of the test, with every call.
-fn at_edges(desk: &mut Desk, to: Ask) -> bool {
+/// Each ring at an edge of the test, or a few of them, with every call.
+fn at_edges(desk: &mut Desk, few: bool, to: Ask) -> bool {
     let edges = edges();
     desk.unlike.extend(edges.amiss(&[], &clauses_of));
-    edges.all.iter().all(|edge| {
+    edges.some(few).iter().all(|edge| {
         desk.hand_in(&edge.figures, to) && desk.push(0x3f80_0000, to) && desk.push(0x7fc0_0000, to) && desk.reset(to)
     })
 }
@@ -402,7 +402,7 @@ pub fn list(seed: u64, to: Ask) -> Vec<String> {
     // A NaN in a slot that holds no item now, which one push would make an item.
     desk.set(2, 1, [0, 0x7fc0_0000, 0, 0], to);
     desk.push(0, to);
-    at_edges(&mut desk, to);
+    at_edges(&mut desk, true, to);
     sequence(&mut desk, &mut Random::new(seed), 600, to);
     desk.unlike
 }
@@ -431,7 +431,7 @@ impl Part for Rings {
 
     fn ask(&mut self, to: Ask) {
         let calls = self.length.of(20_000, 1_000_000, 100_000);
-        let _ = (self.length == Length::Round || at_edges(&mut self.desk, to))
+        let _ = (self.length == Length::Round || at_edges(&mut self.desk, false, to))
             && self.length != Length::States
             && sequence(&mut self.desk, &mut Random::new(self.seed), calls, to);
     }
