@@ -132,15 +132,15 @@ struct State {
     limiter: limiter::State,
 }
 
-/// Where the figures of the parts stand in those of a chain, and those of the settings and thresholds.
-const PROTECTOR: usize = 16;
+/// Where the figures of the parts stand in those of a chain, behind the limiter's, and those of the settings and thresholds.
+const SPEECH: usize = 16;
+const PROTECTOR: usize = SPEECH + 16;
 const CONTROLLER: usize = PROTECTOR + 22;
-const LIMITER: usize = CONTROLLER + 14;
-const STATE: usize = LIMITER + 16;
-const SETTINGS: [usize; 2] = [0, CONTROLLER + 5];
-const THRESHOLDS: [usize; 3] = [5, PROTECTOR + 1, CONTROLLER + 10];
+const STATE: usize = CONTROLLER + 14;
+const SETTINGS: [usize; 2] = [SPEECH, CONTROLLER + 5];
+const THRESHOLDS: [usize; 3] = [SPEECH + 5, PROTECTOR + 1, CONTROLLER + 10];
 /// The starting level, by the speech level's settings, and the change in a frame, by the controller's.
-const STARTING: usize = 6;
+const STARTING: usize = SPEECH + 6;
 const CHANGE: usize = CONTROLLER + 11;
 
 /// The clauses that the others imply: the thresholds are alike, and so are the settings but for the sign of a zero;
@@ -196,10 +196,10 @@ impl State {
     }
 
     fn figures(&self) -> Vec<u32> {
-        let mut all = self.speech.figures();
+        let mut all = self.limiter.figures();
+        all.extend(self.speech.figures());
         all.extend(self.protector.figures());
         all.extend(self.controller.figures());
-        all.extend(self.limiter.figures());
         all
     }
 
@@ -209,10 +209,10 @@ impl State {
             return None;
         }
         Some(State {
-            speech: speech::State::read(&figures[..PROTECTOR])?,
+            limiter: limiter::State::read(&figures[..SPEECH])?,
+            speech: speech::State::read(&figures[SPEECH..PROTECTOR])?,
             protector: protector::State::read(&figures[PROTECTOR..CONTROLLER])?,
-            controller: controller::State::read(&figures[CONTROLLER..LIMITER])?,
-            limiter: limiter::State::read(&figures[LIMITER..])?,
+            controller: controller::State::read(&figures[CONTROLLER..])?,
         })
     }
 
@@ -241,10 +241,9 @@ impl State {
 /// The states at the edges of the test. A part's edge stands in a chain whose other parts are alike; and then come the
 /// chain's own.
 fn edges() -> Edges {
-    let [speech, protector, controller, limiter] = [speech::edges(), protector::edges(), controller::edges(), limiter::edges()];
-    let good = [&speech, &protector, &controller, &limiter].iter().flat_map(|part| part.good.clone()).collect();
-    let mut all = Edges::of(good);
-    for (at, part) in [(0, &speech), (PROTECTOR, &protector), (CONTROLLER, &controller), (LIMITER, &limiter)] {
+    let parts = [limiter::edges(), speech::edges(), protector::edges(), controller::edges()];
+    let mut all = Edges::of(parts.iter().flat_map(|part| part.good.clone()).collect());
+    for (at, part) in [0, SPEECH, PROTECTOR, CONTROLLER].into_iter().zip(&parts) {
         let mut some = Edges::of(all.good.clone());
         some.part(at, part);
         for mut edge in some.all {
@@ -296,7 +295,7 @@ fn edges() -> Edges {
     all.at("protector initial headroom", PROTECTOR, &[INITIAL.to_bits()], &[]);
     // What no clause speaks of: the applier's samples need not be the chain's, nor the two run counts the same.
     all.with("applier samples", true, &[(CONTROLLER + 3, 480), (CONTROLLER + 4, (1.0_f32 / 480.0).to_bits())]);
-    all.with("speech count", true, &[(15, 2), (PROTECTOR + 2, 1)]);
+    all.with("speech count", true, &[(SPEECH + 15, 2), (PROTECTOR + 2, 1)]);
     all
 }
 
@@ -429,6 +428,11 @@ impl Desk {
     /// Asks; the answer is the reply, whether the chain passes, what the frame was, what is published, and
     /// the samples.
     fn put(&mut self, name: &str, figures: &[u32], reply: u32, case: [u32; 4], rest: &[u32], to: Ask) -> bool {
+        self.put_behind(&[], name, figures, reply, case, rest, to)
+    }
+
+    /// The same, with figures behind the reply.
+    fn put_behind(&mut self, ahead: &[u32], name: &str, figures: &[u32], reply: u32, case: [u32; 4], rest: &[u32], to: Ask) -> bool {
         let passes = self.state.passes();
         if let Some(both) = &self.rust {
             match both.is_shown(&self.state) {
@@ -439,7 +443,9 @@ impl Desk {
                 }
             }
         }
-        let mut all = vec![reply, passes as u32];
+        let mut all = vec![reply];
+        all.extend(ahead);
+        all.push(passes as u32);
         all.extend(case);
         all.extend(if passes { self.state.published() } else { [0; 4] });
         all.extend(rest);
@@ -482,16 +488,13 @@ impl Desk {
         self.put("chain.set", &figures, DONE, [0; 4], &[], to)
     }
 
-    /// Asks what the calls say that only look at the chain, and for its state.
+    /// Asks for what is shown of each part, and for what the calls say that only look at the chain.
     fn look(&mut self, to: Ask) -> bool {
         self.others += 1;
-        let mut rest = if self.state.passes() {
-            vec![DONE, DONE, self.state.limiter.estimator.samples]
-        } else {
-            vec![SETTING, SETTING, 0]
-        };
-        rest.extend(self.state.figures());
-        self.put("chain.state", &[], DONE, [0; 4], &rest, to)
+        let state = self.state;
+        let ahead = [state.limiter.shown(), state.speech.shown(), state.protector.shown(), state.controller.shown()].concat();
+        let rest = if state.passes() { [DONE, DONE, state.limiter.estimator.samples] } else { [SETTING, SETTING, 0] };
+        self.put_behind(&ahead, "chain.state", &[], DONE, [0; 4], &rest, to)
     }
 
     /// In the order 1, 4, 2, 3. The frame is held to the samples that stand in the state, also where it fails.

@@ -139,6 +139,13 @@ impl State {
         all
     }
 
+    /// The state, and whether it passes.
+    pub fn shown(&self) -> Vec<u32> {
+        let mut all = self.figures();
+        all.push(self.passes() as u32);
+        all
+    }
+
     /// The state with these figures.
     pub fn read(figures: &[u32]) -> Option<State> {
         match figures {
@@ -314,8 +321,7 @@ impl Desk {
             }
         }
         let mut all = vec![reply];
-        all.extend(ours);
-        all.push(state.passes() as u32);
+        all.extend(state.shown());
         all.extend(rest);
         to(lines::question(name, figures), lines::answer(&all))
     }

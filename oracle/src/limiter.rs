@@ -66,6 +66,13 @@ impl State {
         all
     }
 
+    /// The state, and what each call says that only looks at it: whether it passes, and the last level.
+    pub fn shown(&self) -> Vec<u32> {
+        let mut all = self.figures();
+        all.extend(if self.passes() { [1, DONE, bits(self.estimator.level)] } else { [0, SETTING, 0] });
+        all
+    }
+
     /// The state with these figures.
     pub fn read(figures: &[u32]) -> Option<State> {
         match figures {
@@ -212,8 +219,7 @@ impl Desk {
             }
         }
         let mut all = vec![reply];
-        all.extend(state.figures());
-        all.extend(if state.passes() { [1, DONE, bits(state.estimator.level)] } else { [0, SETTING, 0] });
+        all.extend(state.shown());
         all.extend(rest);
         to(lines::question(name, figures), lines::answer(&all))
     }

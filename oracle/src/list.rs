@@ -72,7 +72,7 @@ const NOT_ASKED: [&str; 64] = [
     "chain.set",
     "chain.set 40a00000 42480000 41700000 40c00000 c2480000 00000002 00000028",
     "chain.state 00000000",
-    "chain.published",
+    "chain.states",
     "n0=ring.new",
 ];
 

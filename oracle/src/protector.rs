@@ -187,6 +187,13 @@ impl State {
         all
     }
 
+    /// The state, and what each call says that only looks at it: whether it passes, and the headroom.
+    pub fn shown(&self) -> Vec<u32> {
+        let mut all = self.figures();
+        all.extend(if self.passes() { [1, DONE, bits(self.headroom)] } else { [0, SETTING, 0] });
+        all
+    }
+
     /// The state with these figures.
     pub fn read(figures: &[u32]) -> Option<State> {
         let (first, rest) = figures.split_at(figures.len().min(4));
@@ -333,7 +340,7 @@ impl Desk {
     fn put(&mut self, name: &str, figures: &[u32], reply: u32, to: Ask) -> bool {
         let state = &self.now.state;
         let mut all = vec![reply];
-        all.extend(state.figures());
+        all.extend(state.shown());
         if let Some((other, _)) = &self.now.rust {
             if let Some(zeros) = is_shown(state, other) {
                 self.zeros += zeros;
@@ -341,7 +348,6 @@ impl Desk {
                 judge::object(&mut self.unlike, format!("after {} {:08x?}: {:08x?}, and {:?}", name, figures, all, other));
             }
         }
-        all.extend(if state.passes() { [1, DONE, bits(state.headroom)] } else { [0, SETTING, 0] });
         to(lines::question(name, figures), lines::answer(&all))
     }
 

@@ -117,6 +117,18 @@ impl State {
         all
     }
 
+    /// The state, and what each call says that only looks at it: whether it passes, the level, and whether it is
+    /// trusted.
+    pub fn shown(&self) -> Vec<u32> {
+        let mut all = self.figures();
+        all.extend(if self.passes() {
+            [1, DONE, bits(self.level), DONE, self.confident as u32]
+        } else {
+            [0, SETTING, 0, SETTING, 0]
+        });
+        all
+    }
+
     /// The state with these figures.
     pub fn read(figures: &[u32]) -> Option<State> {
         let (settings, rest) = Settings::read(figures)?;
@@ -274,17 +286,12 @@ impl Desk {
     fn put(&mut self, name: &str, figures: &[u32], reply: u32, to: Ask) -> bool {
         let state = &self.now.state;
         let mut all = vec![reply];
-        all.extend(state.figures());
+        all.extend(state.shown());
         if let Some((other, _)) = &self.now.rust {
             if !is_shown(state, other) {
                 judge::object(&mut self.unlike, format!("after {} {:08x?}: {:08x?}, and {:?}", name, figures, all, other));
             }
         }
-        all.extend(if state.passes() {
-            [1, DONE, bits(state.level), DONE, state.confident as u32]
-        } else {
-            [0, SETTING, 0, SETTING, 0]
-        });
         to(lines::question(name, figures), lines::answer(&all))
     }
 

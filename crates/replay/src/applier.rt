@@ -17,7 +17,6 @@ use crate::figures::Given;
 use crate::figures::Reply;
 use crate::lines;
 use crate::lines::Asked;
-use crate::lines::Part;
 use crate::lines::Wanted;
 use crate::numbers;
 use gain_applier::Applier;
@@ -45,15 +44,14 @@ const FACTOR: u8 = b'f';
 
 const APPLY: u8 = b'a';
 
-// What a line asks of this part.
-pub(crate) fn wanted(line: &[u8], asked: Asked) -> Wanted {
+// What a line asks of this part, and what was found before where it asks nothing of it.
+pub(crate) fn wanted(line: &[u8], asked: Asked, found: Wanted) -> Wanted {
     lines::seek(
         line,
         asked,
-        Part {
-            number: PART,
-            state: STATE,
-        },
+        found,
+        PART,
+        STATE,
         b"n2=applier.new s*=applier.set f1=applier.factor a2+applier.apply ",
     )
 }

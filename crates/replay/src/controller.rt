@@ -18,7 +18,6 @@ use crate::figures::Given;
 use crate::figures::Reply;
 use crate::lines;
 use crate::lines::Asked;
-use crate::lines::Part;
 use crate::lines::Wanted;
 use crate::numbers;
 use crate::protector;
@@ -56,15 +55,14 @@ const NEW: u8 = b'n';
 
 const PROCESS: u8 = b'p';
 
-// What a line asks of this part.
-pub(crate) fn wanted(line: &[u8], asked: Asked) -> Wanted {
+// What a line asks of this part, and what was found before where it asks nothing of it.
+pub(crate) fn wanted(line: &[u8], asked: Asked, found: Wanted) -> Wanted {
     lines::seek(
         line,
         asked,
-        Part {
-            number: PART,
-            state: STATE,
-        },
+        found,
+        PART,
+        STATE,
         b"n6=controller.new s*=controller.set p8+controller.process ",
     )
 }

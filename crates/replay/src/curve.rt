@@ -17,7 +17,6 @@ use crate::figures::Reply;
 use crate::figures::TOLD;
 use crate::lines;
 use crate::lines::Asked;
-use crate::lines::Part;
 use crate::lines::Wanted;
 use crate::numbers;
 use crate::ring;
@@ -47,15 +46,14 @@ const LEVEL: u8 = b'l';
 
 const STATS: u8 = b't';
 
-// What a line asks of this part.
-pub(crate) fn wanted(line: &[u8], asked: Asked) -> Wanted {
+// What a line asks of this part, and what was found before where it asks nothing of it.
+pub(crate) fn wanted(line: &[u8], asked: Asked, found: Wanted) -> Wanted {
     lines::seek(
         line,
         asked,
-        Part {
-            number: PART,
-            state: STATE,
-        },
+        found,
+        PART,
+        STATE,
         b"n0=curve.new s*=curve.set l1=curve.level t0=curve.stats ",
     )
 }

@@ -41,23 +41,23 @@ use crate::speech;
 use crate::whole;
 use std::num::wrapping_add_usize;
 
-// The first of two that asks something.
-fn first(a: Wanted, b: Wanted) -> Wanted {
-    if a.part == 0 { b } else { a }
+// What a line asks of a part that no frame is handed to, each asked in turn; and what was found before where it asks
+// nothing of them.
+fn wanted_quiet(line: &[u8], asked: Asked, found: Wanted) -> Wanted {
+    let a = ratio::wanted(line, asked, found);
+    let b = ring::wanted(line, asked, a);
+    let c = curve::wanted(line, asked, b);
+    let d = speech::wanted(line, asked, c);
+    protector::wanted(line, asked, d)
 }
 
-// What a line asks of a part that no frame is handed to.
-fn wanted_quiet(line: &[u8], asked: Asked) -> Wanted {
-    let a = first(ratio::wanted(line, asked), ring::wanted(line, asked));
-    let b = first(curve::wanted(line, asked), speech::wanted(line, asked));
-    first(a, first(b, protector::wanted(line, asked)))
-}
-
-// What a line asks of another part.
-fn wanted_loud(line: &[u8], asked: Asked) -> Wanted {
-    let a = first(estimator::wanted(line, asked), applier::wanted(line, asked));
-    let b = first(limits::wanted(line, asked), controller::wanted(line, asked));
-    first(a, first(b, whole::wanted(line, asked)))
+// The same of another part.
+fn wanted_loud(line: &[u8], asked: Asked, found: Wanted) -> Wanted {
+    let a = estimator::wanted(line, asked, found);
+    let b = applier::wanted(line, asked, a);
+    let c = limits::wanted(line, asked, b);
+    let d = controller::wanted(line, asked, c);
+    whole::wanted(line, asked, d)
 }
 
 // Asks a part that no frame is handed to.
@@ -123,11 +123,17 @@ fn answer_in(
     put(out, at, reply, desk, frame)
 }
 
-// Answers a line: puts the answer at a place of a buffer, and answers the place after it. The parts are asked in
-// turn whether the line is theirs.
+// Answers a line: puts the answer at a place of a buffer, and answers the place after it.
 pub(crate) fn answer(line: &[u8], desk: &mut Desk, out: &mut Out, at: usize) -> usize {
     let asked = lines::split(line);
-    let wanted = first(wanted_quiet(line, asked), wanted_loud(line, asked));
+    let none = Wanted {
+        part: 0,
+        word: 0,
+        samples: 0,
+        skip: 0,
+    };
+    let quiet = wanted_quiet(line, asked, none);
+    let wanted = wanted_loud(line, asked, quiet);
     if wanted.part == 0 {
         return lines::end(out, at, at);
     }

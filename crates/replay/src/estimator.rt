@@ -18,7 +18,6 @@ use crate::figures::Reply;
 use crate::figures::TOLD;
 use crate::lines;
 use crate::lines::Asked;
-use crate::lines::Part;
 use crate::lines::Wanted;
 use crate::numbers;
 use fixed_digital_level_estimator::Estimator;
@@ -52,15 +51,14 @@ const RESET: u8 = b'r';
 
 const LEVEL: u8 = b'l';
 
-// What a line asks of this part.
-pub(crate) fn wanted(line: &[u8], asked: Asked) -> Wanted {
+// What a line asks of this part, and what was found before where it asks nothing of it.
+pub(crate) fn wanted(line: &[u8], asked: Asked, found: Wanted) -> Wanted {
     lines::seek(
         line,
         asked,
-        Part {
-            number: PART,
-            state: STATE,
-        },
+        found,
+        PART,
+        STATE,
         b"n1=estimator.new s*=estimator.set c1=estimator.samples r0=estimator.reset l2+estimator.level ",
     )
 }

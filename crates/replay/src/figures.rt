@@ -114,15 +114,6 @@ pub(crate) fn put_floats(all: &mut Desk, from: usize, some: &[f32]) {
     }
 }
 
-// Copies so many figures from one place to another.
-pub(crate) fn copy(all: &mut Desk, from: usize, to: usize, count: usize) {
-    let mut i: usize = 0;
-    while i < count {
-        store(all, wrapping_add_usize(to, i), word(all, from, i));
-        i += 1;
-    }
-}
-
 // Stores the figures of a line whose name ends at a place: as many as are asked for, and 0 where the
 // line has no more.
 pub(crate) fn ask(all: &mut Desk, line: &[u8], name: usize, count: usize) {

@@ -19,7 +19,6 @@ use crate::figures::Given;
 use crate::figures::Reply;
 use crate::lines;
 use crate::lines::Asked;
-use crate::lines::Part;
 use crate::lines::Wanted;
 use crate::numbers;
 use limiter::Limiter;
@@ -58,15 +57,14 @@ const RESET: u8 = b'r';
 
 const PROCESS: u8 = b'p';
 
-// What a line asks of this part.
-pub(crate) fn wanted(line: &[u8], asked: Asked) -> Wanted {
+// What a line asks of this part, and what was found before where it asks nothing of it.
+pub(crate) fn wanted(line: &[u8], asked: Asked, found: Wanted) -> Wanted {
     lines::seek(
         line,
         asked,
-        Part {
-            number: PART,
-            state: STATE,
-        },
+        found,
+        PART,
+        STATE,
         b"n1=limiter.new s*=limiter.set c1=limiter.samples r0=limiter.reset p2+limiter.process ",
     )
 }

@@ -56,12 +56,6 @@ pub(crate) fn split(line: &[u8]) -> Asked {
 // The most samples that a frame can have.
 pub const MOST: usize = 3840;
 
-// A part: its number, which is not 0, and how many figures its state has.
-pub struct Part {
-    pub number: u32,
-    pub state: usize,
-}
-
 // What a line asks: the number of the part, which is 0 where it asks none; the letter of its name in the part's
 // table; how many samples it has; and how many bytes stand between its name and the first of them.
 pub struct Wanted {
@@ -71,35 +65,18 @@ pub struct Wanted {
     pub skip: usize,
 }
 
-// What a line asks that is no question.
-pub(crate) fn nothing() -> Wanted {
-    Wanted {
-        part: 0,
-        word: 0,
-        samples: 0,
-        skip: 0,
-    }
-}
-
-// How many figures a byte of a table stands for: a digit, in which a is 10, or a star for those of a state.
-fn figures_of(byte: u8, state: usize) -> usize {
-    if byte == b'*' {
-        state
-    } else if byte < b'a' {
-        after(wide(byte), 48)
-    } else {
-        after(wide(byte), 87)
-    }
-}
-
-// A byte as a count.
-fn wide(byte: u8) -> usize {
-    byte as usize
-}
-
 // How many of so many figures follow the first few.
 fn after(count: usize, first: usize) -> usize {
     if count < first { 0 } else { count - first }
+}
+
+// How many figures a byte of a table stands for: a digit, or a star for those of a state.
+fn figures_of(byte: u8, state: usize) -> usize {
+    if byte == b'*' {
+        state
+    } else {
+        after(byte as usize, 48)
+    }
 }
 
 // How many bytes so many figures take, each with its space, and one space more.
@@ -107,22 +84,19 @@ fn bytes_of(count: usize) -> usize {
     if count < 1000 { 9 * count + 1 } else { 0 }
 }
 
-// What a line asks that has the name whose entry stands at a place of a part's table: nothing where it does not
-// have the entry's figures. Where a plus follows their number, samples follow the figures.
-fn entry(asked: Asked, part: Part, table: &[u8], at: usize) -> Wanted {
-    let due = figures_of(byte_at(table, wrapping_add_usize(at, 1)), part.state);
+// What a line asks of a part that has the name whose entry stands at a place of the part's table: nothing where it
+// does not have the entry's figures. Where a plus follows their number, samples follow the figures.
+fn entry(asked: Asked, part: u32, state: usize, table: &[u8], at: usize) -> Wanted {
+    let due = figures_of(byte_at(table, wrapping_add_usize(at, 1)), state);
     let samples = after(asked.count, due);
     let sound = byte_at(table, wrapping_add_usize(at, 2)) == b'+';
-    let exact = (due <= asked.count) & (samples <= numbers::pick(sound, MOST, 0));
-    if asked.ok & exact {
-        Wanted {
-            part: part.number,
-            word: byte_at(table, at),
-            samples,
-            skip: bytes_of(due),
-        }
-    } else {
-        nothing()
+    let most = numbers::pick(sound, MOST, 0);
+    let ok = asked.ok & (due <= asked.count) & (samples <= most);
+    Wanted {
+        part: if ok { part } else { 0 },
+        word: byte_at(table, at),
+        samples,
+        skip: bytes_of(due),
     }
 }
 
@@ -138,22 +112,30 @@ fn is_spelled(line: &[u8], name: usize, table: &[u8], at: usize) -> bool {
     byte_at(table, wrapping_add_usize(at, name)) == b' '
 }
 
-// What a line asks of a part whose table of names is given: nothing where its name is not there. An entry of the
-// table is a letter, which the part knows the name by; how many figures the name takes (`figures_of`); an equals
-// sign, or a plus where any number of samples up to 3840 follows; the name; and a space.
-pub(crate) fn seek(line: &[u8], asked: Asked, part: Part, table: &[u8]) -> Wanted {
+// What a line asks of a part with this number, whose state has so many figures and whose table of names is given; and
+// what was found before where its name is not there. An entry of the table is a letter, which the part knows the name
+// by; how many figures the name takes (`figures_of`); an equals sign, or a plus where any number of samples up to 3840
+// follows; the name; and a space.
+pub(crate) fn seek(
+    line: &[u8],
+    asked: Asked,
+    found: Wanted,
+    part: u32,
+    state: usize,
+    table: &[u8],
+) -> Wanted {
     let mut first = true;
     let mut i = 0;
     while i < table.len() {
         if first {
             if is_spelled(line, asked.name, table, wrapping_add_usize(i, 3)) {
-                return entry(asked, part, table, i);
+                return entry(asked, part, state, table, i);
             }
         }
         first = table[i] == b' ';
         i += 1;
     }
-    nothing()
+    found
 }
 
 // How many samples of a frame there are, and no more than there is room for.

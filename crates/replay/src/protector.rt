@@ -17,7 +17,6 @@ use crate::figures::Given;
 use crate::figures::Reply;
 use crate::lines;
 use crate::lines::Asked;
-use crate::lines::Part;
 use crate::lines::Wanted;
 use crate::numbers;
 use crate::ring;
@@ -65,15 +64,14 @@ const ANALYZE: u8 = b'a';
 
 const RESET: u8 = b'r';
 
-// What a line asks of this part.
-pub(crate) fn wanted(line: &[u8], asked: Asked) -> Wanted {
+// What a line asks of this part, and what was found before where it asks nothing of it.
+pub(crate) fn wanted(line: &[u8], asked: Asked, found: Wanted) -> Wanted {
     lines::seek(
         line,
         asked,
-        Part {
-            number: PART,
-            state: STATE,
-        },
+        found,
+        PART,
+        STATE,
         b"n2=protector.new s*=protector.set a3=protector.analyze r0=protector.reset ",
     )
 }

@@ -10,7 +10,6 @@ use crate::figures::Reply;
 use crate::figures::TOLD;
 use crate::lines;
 use crate::lines::Asked;
-use crate::lines::Part;
 use crate::lines::Wanted;
 use units::kinds::Db;
 
@@ -19,17 +18,9 @@ pub const PART: u32 = 1;
 
 pub const END: usize = PARTS;
 
-// What a line asks of this part.
-pub(crate) fn wanted(line: &[u8], asked: Asked) -> Wanted {
-    lines::seek(
-        line,
-        asked,
-        Part {
-            number: PART,
-            state: 0,
-        },
-        b"x1=ratio ",
-    )
+// What a line asks of this part, and what was found before where it asks nothing of it.
+pub(crate) fn wanted(line: &[u8], asked: Asked, found: Wanted) -> Wanted {
+    lines::seek(line, asked, found, PART, 0, b"x1=ratio ")
 }
 
 // Answers the question that lies on the desk.

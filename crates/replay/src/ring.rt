@@ -18,7 +18,6 @@ use crate::figures::Given;
 use crate::figures::Reply;
 use crate::lines;
 use crate::lines::Asked;
-use crate::lines::Part;
 use crate::lines::Wanted;
 use crate::numbers;
 use crate::ratio;
@@ -61,15 +60,14 @@ const RESET: u8 = b'r';
 
 const KEEP: u8 = b'k';
 
-// What a line asks of this part.
-pub(crate) fn wanted(line: &[u8], asked: Asked) -> Wanted {
+// What a line asks of this part, and what was found before where it asks nothing of it.
+pub(crate) fn wanted(line: &[u8], asked: Asked, found: Wanted) -> Wanted {
     lines::seek(
         line,
         asked,
-        Part {
-            number: PART,
-            state: STATE,
-        },
+        found,
+        PART,
+        STATE,
         b"n0=ring.new s*=ring.set p1=ring.push r0=ring.reset k0=ring.keep ",
     )
 }

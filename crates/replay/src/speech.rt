@@ -18,7 +18,6 @@ use crate::figures::Reply;
 use crate::limits;
 use crate::lines;
 use crate::lines::Asked;
-use crate::lines::Part;
 use crate::lines::Wanted;
 use crate::numbers;
 use speech_level_estimator::Average;
@@ -54,15 +53,14 @@ const UPDATE: u8 = b'u';
 
 const RESET: u8 = b'r';
 
-// What a line asks of this part.
-pub(crate) fn wanted(line: &[u8], asked: Asked) -> Wanted {
+// What a line asks of this part, and what was found before where it asks nothing of it.
+pub(crate) fn wanted(line: &[u8], asked: Asked, found: Wanted) -> Wanted {
     lines::seek(
         line,
         asked,
-        Part {
-            number: PART,
-            state: STATE,
-        },
+        found,
+        PART,
+        STATE,
         b"n6=speech.new s*=speech.set u2=speech.update r0=speech.reset ",
     )
 }

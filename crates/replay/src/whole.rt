@@ -1,8 +1,9 @@
-// The chain. Its four parts stand where the level of the speech, the protector, the controller and the limiter
+// The chain. Its four parts stand where the limiter, the level of the speech, the protector and the controller
 // stand on the desk, so each of them can be handed in by its own name as well.
 //
 //   chain.new SETTINGS THRESHOLD SAMPLES  five settings, as speech.new has them
-//   chain.set STATE                       the chain with this state
+//   chain.set STATE                       the chain with this state: the limiter's, the speech level's, the
+//                                         protector's and the controller's, in this order
 //   chain.step FRAME                      between its two first figures and its samples stand the frame's
 //                                         five: the probability, the rms level, the peak, the noise and
 //                                         the envelope
@@ -11,9 +12,9 @@
 // Each answer tells whether the chain passes, what the frame was (0 no speech, 1 waiting, 2 publishing), how
 // many frames are missing, the level and the headroom that are published with it; and then what the chain
 // publishes: level and headroom, whether the level is trusted, and the gain in dB, all 0 where the chain fails
-// its test. chain.state tells besides the reply to `published`, that to `samples` and the samples, and then the
-// state as it stands, also where it fails: the figures of the speech level's state, the protector's, the
-// controller's and the limiter's, in this order.
+// its test. chain.state shows before these what is shown of each part, in the order above: the parts' own figures,
+// and not what the chain publishes, so that a state that fails its test can be compared as well. It tells besides
+// the reply to `published`, that to `samples`, and the samples.
 
 use crate::controller;
 use crate::figures;
@@ -25,7 +26,6 @@ use crate::figures::TOLD;
 use crate::limits;
 use crate::lines;
 use crate::lines::Asked;
-use crate::lines::Part;
 use crate::lines::Wanted;
 use crate::numbers;
 use crate::protector;
@@ -42,24 +42,24 @@ use units::replies::DONE;
 // there.
 pub const PART: u32 = controller::PART + 1;
 
-const STATE: usize = LIMITER + limits::STATE;
+const STATE: usize = CONTROLLER + controller::STATE;
 
 pub const END: usize = controller::END;
 
-// Where the figures of the parts stand in the state: those of the speech level are the first.
-const PROTECTOR: usize = speech::STATE;
+// Where the figures of the parts stand in a question that hands a state in: the limiter's are the first.
+const SPEECH: usize = ASKED + limits::STATE;
+
+const PROTECTOR: usize = SPEECH + speech::STATE;
 
 const CONTROLLER: usize = PROTECTOR + protector::STATE;
 
-const LIMITER: usize = CONTROLLER + controller::STATE;
+// How many figures are shown of the four parts, which stand one after the other on the desk.
+const SHOWN: usize = END - limits::FROM;
 
-// How many results there are, then how many of the calls that look at the chain, and where the state stands behind
-// them.
+// How many results there are, and how many with those of the calls that look at the chain.
 const RESULTS: usize = 9;
 
-const LOOKS: usize = 3;
-
-const SHOWN: usize = TOLD + RESULTS + LOOKS;
+const LOOKS: usize = RESULTS + 3;
 
 // Where the question has the frame's figures.
 const KNOWN: usize = 2;
@@ -73,15 +73,14 @@ const STEP: u8 = b'f';
 
 const LOOK: u8 = b'l';
 
-// What a line asks of this part.
-pub(crate) fn wanted(line: &[u8], asked: Asked) -> Wanted {
+// What a line asks of this part, and what was found before where it asks nothing of it.
+pub(crate) fn wanted(line: &[u8], asked: Asked, found: Wanted) -> Wanted {
     lines::seek(
         line,
         asked,
-        Part {
-            number: PART,
-            state: STATE,
-        },
+        found,
+        PART,
+        STATE,
         b"n7=chain.new s*=chain.set f7+chain.step l0=chain.state ",
     )
 }
@@ -100,16 +99,10 @@ fn metered(all: &Desk, from: usize) -> Figures {
 // The chain whose parts' figures stand on the desk, or the one that the question hands in.
 fn read(desk: &Desk, given: bool) -> Chain {
     Chain {
-        estimator: speech::read(desk, numbers::pick(given, ASKED, speech::FROM)),
-        protector: protector::read(
-            desk,
-            numbers::pick(given, ASKED + PROTECTOR, protector::FROM),
-        ),
-        controller: controller::read(
-            desk,
-            numbers::pick(given, ASKED + CONTROLLER, controller::FROM),
-        ),
-        limiter: limits::read(desk, numbers::pick(given, ASKED + LIMITER, limits::FROM)),
+        estimator: speech::read(desk, numbers::pick(given, SPEECH, speech::FROM)),
+        protector: protector::read(desk, numbers::pick(given, PROTECTOR, protector::FROM)),
+        controller: controller::read(desk, numbers::pick(given, CONTROLLER, controller::FROM)),
+        limiter: limits::read(desk, numbers::pick(given, ASKED, limits::FROM)),
     }
 }
 
@@ -146,7 +139,7 @@ fn case_of(answer: Answer) -> Case {
 }
 
 // The results: those of the case, and what the chain publishes; and what the calls say that look at it.
-fn told(answer: Answer, chain: Chain) -> [u32; RESULTS + LOOKS] {
+fn told(answer: Answer, chain: Chain) -> [u32; LOOKS] {
     let now = case_of(answer);
     let heard = chain.published();
     let published = heard.published;
@@ -173,20 +166,6 @@ fn leave(desk: &mut Desk, chain: Chain) {
     protector::leave(desk, chain.protector);
     controller::leave(desk, chain.controller);
     limits::leave(desk, chain.limiter);
-}
-
-// Shows the state behind the results. It is the parts' own figures, and not what the chain publishes, so that a
-// state that fails its test can be compared as well.
-fn show(desk: &mut Desk) {
-    figures::copy(desk, speech::FROM, SHOWN, speech::STATE);
-    figures::copy(desk, protector::FROM, SHOWN + PROTECTOR, protector::STATE);
-    figures::copy(
-        desk,
-        controller::FROM,
-        SHOWN + CONTROLLER,
-        controller::STATE,
-    );
-    figures::copy(desk, limits::FROM, SHOWN + LIMITER, limits::STATE);
 }
 
 // What is answered to a chain that is started afresh.
@@ -225,11 +204,10 @@ pub(crate) fn answer(word: u8, given: Given, desk: &mut Desk, frame: &mut [f32])
     let results = told(answer, a.chain);
     figures::put(desk, TOLD, &results);
     leave(desk, a.chain);
-    show(desk);
     Reply {
         number: a.reply,
-        from: 0,
-        size: 0,
-        told: numbers::pick(word == LOOK, RESULTS + LOOKS + STATE, RESULTS),
+        from: limits::FROM,
+        size: numbers::pick(word == LOOK, SHOWN, 0),
+        told: numbers::pick(word == LOOK, LOOKS, RESULTS),
     }
 }

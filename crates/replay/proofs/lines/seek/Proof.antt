@@ -6,10 +6,10 @@ use Rattle.replay.proofs.lines.seek.Statement.{statement}
 use Rattle.replay.proofs.lines.seek.Tie as tie
 
 abbrev Inv-loop : tie.InvT-loop
-Inv-loop line asked part table first₀ i₀ first i = i ≤ length table
+Inv-loop line asked found part state table first₀ i₀ first i = i ≤ length table
 
 abbrev μ-loop : tie.MeasureT-loop
-μ-loop line asked part table first₀ i₀ first i = length table - i
+μ-loop line asked found part state table first₀ i₀ first i = length table - i
 
 loop-holds : tie.Need-loop-holds Inv-loop μ-loop
 loop-holds c = search needs
@@ -38,9 +38,6 @@ loop-less c = search needs
 loop-again : tie.Need-loop-again Inv-loop μ-loop
 loop-again c = search needs
 
-nothing-requires : tie.Need-nothing-requires Inv-loop μ-loop
-nothing-requires c κs = search needs
-
 returns-2 : tie.Need-returns-2 Inv-loop μ-loop
 returns-2 c = search needs
 
@@ -59,5 +56,4 @@ seek-spec =
     add-i
     loop-less
     loop-again
-    nothing-requires
     returns-2)
