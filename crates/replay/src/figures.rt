@@ -17,7 +17,7 @@ pub const MOST_ASKED: usize = 192;
 // Where the results stand, and how many there can be.
 pub const TOLD: usize = ASKED + MOST_ASKED;
 
-const MOST_TOLD: usize = 256;
+const MOST_TOLD: usize = 64;
 
 // Where the first part's figures stand.
 pub const PARTS: usize = TOLD + MOST_TOLD;
