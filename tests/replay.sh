@@ -102,6 +102,27 @@ same "replay: the paper's five records are N, W, N, W and P, and the cough moves
         record 3f800000 c2200000 00000000
     } | replay | sed 1d | cut -d' ' -f3,7,10 | sed 's/^0000000//; s/^2 \([^ ]*\) .*/2 \1/; s/.*/[&]/' | paste -sd' ')"
 
+# The whole state of a chain, 68 figures: what chain.state shows of the four parts, without what their own calls say of them.
+state() { replay | tail -n 1 | cut -d' ' -f2-17,21-36,42-63,67-80; }
+new="chain.new $usual 00000002 000001e0"
+read -ra good <<<"$({ echo "$new"; echo chain.state; } | state)"
+same "replay: a chain's state is 68 figures" 68 "${#good[@]}"
+same "replay: a chain's state that is handed in is shown as it was" "${good[*]}" "$({ echo "chain.set ${good[*]}"; echo chain.state; } | state)"
+same "replay: a chain that is handed in goes on as the new one does" \
+    "$({ echo "$new"; record 3f800000 c2200000 00000000; } | replay | tail -n 1)" \
+    "$({ echo "chain.set ${good[*]}"; record 3f800000 c2200000 00000000; } | replay | tail -n 1)"
+# Its parts are not alike in one setting: the controller's headroom, behind 16, 16 and 22 figures and the applier's five. The
+# chain is refused with 4, publishes nothing, and stands as it came.
+other=("${good[@]}")
+other[59]=40a00001
+same "replay: a chain whose parts differ in one setting is refused with 4 and publishes nothing" \
+    "00000004 00000000 00000000 00000000 00000000 00000000 00000000 00000000 00000000 00000000" \
+    "$({ echo "chain.set ${other[*]}"; record 3f800000 c2200000 00000000; } | replay | tail -n 1 | cut -d' ' -f1-10)"
+same "replay: what looks at it is refused with 4 too, and has no samples" "00000004 00000004 00000000" \
+    "$({ echo "chain.set ${other[*]}"; echo chain.state; } | replay | tail -n 1 | cut -d' ' -f91-93)"
+same "replay: it stands as it came, also after a refused frame" "${other[*]}" \
+    "$({ echo "chain.set ${other[*]}"; record 3f800000 c2200000 00000000; echo chain.state; } | state)"
+
 same "replay: an empty line is no question" "?" "$(echo | replay)"
 
 same "replay: a line that is cut is no question" "[$ten] [?]" "$(printf 'ratio 41a00000\nratio 41a0' | answers)"

@@ -2,6 +2,7 @@
 //! shows. Every state that passes can be brought about in the Rust by its own calls, so that all accepted
 //! frames are the Rust's own. By hand from document 01 are the refusals.
 
+use crate::clauses::{self, Clause, Edges, NOT_ABOVE_ZERO, NO_NUMBERS};
 use crate::drive::{Ask, Length, Part};
 use crate::lines::{self, bits, DONE, FIGURE, SETTING};
 use crate::random::Random;
@@ -57,11 +58,17 @@ pub struct State {
 
 impl State {
     /// Both factors in range, samples a shape's or -1, "inverse as its rule gives it".
+    pub fn clauses(&self) -> Vec<Clause> {
+        vec![
+            ("applier last factor", is_factor(self.last)),
+            ("applier current factor", is_factor(self.current)),
+            ("applier samples", self.samples == -1 || is_samples(self.samples as u32)),
+            ("applier inverse", self.inverse == 1.0 / self.samples as f32),
+        ]
+    }
+
     pub fn passes(&self) -> bool {
-        is_factor(self.last)
-            && is_factor(self.current)
-            && (self.samples == -1 || is_samples(self.samples as u32))
-            && self.inverse == 1.0 / self.samples as f32
+        clauses::hold(&self.clauses())
     }
 
     pub fn figures(&self) -> [u32; 5] {
@@ -101,7 +108,8 @@ impl State {
 /// The Rust's applier with this state: made at the last factor, sent over silence for its samples, and
 /// given the current factor.
 pub fn published(state: &State) -> Option<Published> {
-    if !state.passes() {
+    // The test may be without a clause: then too no more samples are made than a channel has.
+    if !state.passes() || state.samples > 480 {
         return None;
     }
     let mut made = Published::new(state.clip, state.last);
@@ -242,6 +250,10 @@ impl Player for Desk {
         &mut self.tally
     }
 
+    fn object(&mut self, why: Vec<String>) {
+        self.unlike.extend(why);
+    }
+
     fn bound(&self) -> f32 {
         LARGEST
     }
@@ -295,43 +307,58 @@ impl Player for Desk {
         }
     }
 
-    /// A factor outside its range, last and then current; samples that no channel has; an inverse that
-    /// is not theirs.
-    fn fail(&mut self, which: usize, to: Ask) -> Option<bool> {
-        let good = State {
-            clip: true,
-            last: 1.0,
-            current: 2.0,
-            samples: 40,
-            inverse: 1.0 / 40.0,
-        };
-        let outside = &FACTORS[ACCEPTED as usize..];
-        let count = outside.len();
-        let samples = [0, -2, 20, 50, 500, i32::MIN, i32::MAX];
-        let inverses = [-1.0, 0.0, f32::NAN, f32::INFINITY, 0.025000002];
-        let state = if which < 2 * count {
-            let x = f32::from_bits(outside[which % count]);
-            if which < count {
-                State { last: x, ..good }
-            } else {
-                State { current: x, ..good }
-            }
-        } else if which < 2 * count + samples.len() {
-            let n = samples[which - 2 * count];
-            State {
-                samples: n,
-                inverse: 1.0 / n as f32,
-                ..good
-            }
-        } else {
-            let &inverse = inverses.get(which - 2 * count - samples.len())?;
-            State { inverse, ..good }
-        };
-        Some(self.set(state, to))
+    fn edges(&self) -> Edges {
+        edges()
+    }
+
+    fn amiss(&self) -> Vec<String> {
+        edges().amiss(&[], &clauses_of)
+    }
+
+    fn at_edge(&mut self, figures: &[u32], to: Ask) -> Option<bool> {
+        match *figures {
+            [clip, last, current, samples, inverse] => Some(self.set(State::read([clip, last, current, samples, inverse]), to)),
+            _ => None,
+        }
     }
 
     fn refuse(&mut self, to: Ask) -> bool {
         self.aim(0x3f80_0000, to) && self.aim(0x7fc0_0000, to)
+    }
+}
+
+/// The edges of an applier's clauses whose figures stand from a place on, with factors up to a value.
+pub fn add_edges(all: &mut Edges, place: usize, high: u32) {
+    for (clause, at) in [("applier last factor", place + 1), ("applier current factor", place + 2)] {
+        all.at(clause, at, &[1, 0x3f80_0000, high], &NOT_ABOVE_ZERO);
+        all.at(clause, at, &[], &[0x4400_0000, 0x4400_0001]);
+        all.at(clause, at, &[], &NO_NUMBERS);
+    }
+    let inverse = |samples: i32| (1.0 / samples as f32).to_bits();
+    for samples in [-1, 40, 60, 480, 0, 1, -2, 20, 39, 41, 50, 481, 500, i32::MIN, i32::MAX] {
+        let inside = samples == -1 || is_samples(samples as u32);
+        all.with("applier samples", inside, &[(place + 3, samples as u32), (place + 4, inverse(samples))]);
+    }
+    for samples in [-1, 40, 480] {
+        let right = inverse(samples);
+        for (figure, inside) in [(right, true), (right + 1, false), (right - 1, false), (0, false), (0x7fc0_0000, false), (0x7f80_0000, false)] {
+            all.with("applier inverse", inside, &[(place + 3, samples as u32), (place + 4, figure)]);
+        }
+    }
+}
+
+/// The states at the edges of the test: "gain factor above 0, below 512".
+fn edges() -> Edges {
+    let good = [1.0_f32, 2.0, 1.0 / 40.0].map(f32::to_bits);
+    let mut all = Edges::of(vec![1, good[0], good[1], 40, good[2]]);
+    add_edges(&mut all, 0, 0x43ff_ffff);
+    all
+}
+
+fn clauses_of(figures: &[u32]) -> Option<Vec<Clause>> {
+    match *figures {
+        [clip, last, current, samples, inverse] => Some(State::read([clip, last, current, samples, inverse]).clauses()),
+        _ => None,
     }
 }
 
@@ -393,7 +420,8 @@ impl Part for Appliers {
 
     fn ask(&mut self, to: Ask) {
         let samples = self.length.of(400_000, 10_000_000, 2_000_000);
-        let _ = (self.length == Length::Round || each_factor(&mut self.desk, &mut Random::new(self.seed), to))
+        let _ = (matches!(self.length, Length::Round | Length::States)
+            || each_factor(&mut self.desk, &mut Random::new(self.seed), to))
             && sound::run(&mut self.desk, self.seed, self.length, samples, to);
     }
 
@@ -408,6 +436,10 @@ impl Part for Appliers {
             ("applier.apply", frame) => desk.play(&Frame::read(frame)?, to),
             _ => return None,
         })
+    }
+
+    fn clauses(&self) -> Vec<&'static str> {
+        edges().names(&[], &clauses_of)
     }
 
     fn kinds(&self) -> Vec<(&'static str, usize)> {

@@ -1,19 +1,26 @@
 //! The chain: the four published modules in document 01's order, over whole services of readings, coughs
-//! and pauses. Compared are every published figure and every sample.
+//! and pauses, beside the four states of this oracle, written from document 01. Compared are every published figure,
+//! every sample, and, where it is asked for, the whole state; after every frame the Rust's four must have these states.
 //!
 //! Each service is asked about twice: as it is, and with every frame of its coughs replaced by one that is
 //! no speech. A cough is a run of speech frames that is shorter than the threshold and closed by a frame
 //! that is no speech. What is published and every sample must be the same in both: document 01's third
-//! demand, tried on the running code.
+//! demand, tried on the running code. Between the frames as they are there are refused ones here and there, and none
+//! in the second run: so a refused frame is not counted, does not end a run and leaves no trace.
+//!
+//! Any state can be handed in. One that fails document 01's test is refused with 4, and then stands as it came; one
+//! that passes goes on by document 01 alone, and those frames are counted apart.
 //!
 //! The Rust as it stands goes along, and shows how far the two power functions bring whole chains apart.
 
 use crate::applier::LARGEST;
+use crate::clauses::{self, Clause, Edges, MINUS_ZERO};
 use crate::drive::{Ask, Length, Part};
 use crate::judge::{self, Departure, Settings, ENVELOPE, LEVEL, RMS};
-use crate::lines::{self, DONE, FIGURE, SAMPLE, SETTING, SHAPE};
+use crate::lines::{self, bits, DONE, FIGURE, SAMPLE, SETTING, SHAPE};
 use crate::random::Random;
 use crate::sound::{self, Frame};
+use crate::{controller, limiter, protector, speech};
 
 /// The headroom that a chain starts with.
 const INITIAL: f32 = 20.0;
@@ -51,10 +58,10 @@ macro_rules! chain {
             use $build::speech_level_estimator::{AdaptiveDigitalConfig, SpeechLevelEstimator};
 
             pub struct Chain {
-                level: SpeechLevelEstimator,
-                protector: SaturationProtector,
-                controller: AdaptiveDigitalGainController,
-                limiter: Limiter,
+                pub level: SpeechLevelEstimator,
+                pub protector: SaturationProtector,
+                pub controller: AdaptiveDigitalGainController,
+                pub limiter: Limiter,
             }
 
             fn config(settings: &Settings) -> AdaptiveDigitalConfig {
@@ -116,6 +123,209 @@ macro_rules! chain {
 chain!(ruled, sonora_ruled);
 chain!(as_is, sonora_as_is);
 
+/// The chain by document 01: the states of its four parts.
+#[derive(Clone, Copy, Default)]
+struct State {
+    speech: speech::State,
+    protector: protector::State,
+    controller: controller::State,
+    limiter: limiter::State,
+}
+
+/// Where the figures of the parts stand in those of a chain, behind the limiter's, and those of the settings and thresholds.
+const SPEECH: usize = 16;
+const PROTECTOR: usize = SPEECH + 16;
+const CONTROLLER: usize = PROTECTOR + 22;
+const STATE: usize = CONTROLLER + 14;
+const SETTINGS: [usize; 2] = [SPEECH, CONTROLLER + 5];
+const THRESHOLDS: [usize; 3] = [SPEECH + 5, PROTECTOR + 1, CONTROLLER + 10];
+/// The starting level, by the speech level's settings, and the change in a frame, by the controller's.
+const STARTING: usize = SPEECH + 6;
+const CHANGE: usize = CONTROLLER + 11;
+
+/// The clauses that the others imply: the thresholds are alike, and so are the settings but for the sign of a zero;
+/// the initial headroom is 20.
+const IMPLIED: [&str; 8] = [
+    "speech threshold",
+    "protector threshold",
+    "controller threshold",
+    "speech largest gain",
+    "controller largest gain",
+    "speech change per second",
+    "controller change per second",
+    "protector initial headroom",
+];
+
+/// The clauses about the settings, which are alike.
+const ALIKE: [&str; 5] = [
+    "chain headroom setting",
+    "chain largest gain",
+    "chain initial gain",
+    "chain change per second",
+    "chain output noise",
+];
+
+impl State {
+    fn new(settings: Settings, threshold: u32, samples: u32) -> State {
+        State {
+            speech: speech::State::new(settings, threshold),
+            protector: protector::State::new(INITIAL, threshold),
+            controller: controller::State::new(settings, threshold),
+            limiter: limiter::State::new(samples),
+        }
+    }
+
+    /// "a chain's parts alike in T and settings, initial headroom 20".
+    fn clauses(&self) -> Vec<Clause> {
+        let mut all = self.speech.clauses();
+        all.extend(self.protector.clauses());
+        all.extend(self.controller.clauses());
+        all.extend(self.limiter.clauses());
+        let t = self.speech.threshold;
+        all.push(("chain threshold of the protector", t == self.protector.threshold));
+        all.push(("chain threshold of the controller", t == self.controller.threshold));
+        for (i, name) in ALIKE.into_iter().enumerate() {
+            all.push((name, self.speech.settings.at(i) == self.controller.settings.at(i)));
+        }
+        all.push(("chain initial headroom", self.protector.initial == INITIAL));
+        all
+    }
+
+    fn passes(&self) -> bool {
+        clauses::hold(&self.clauses())
+    }
+
+    fn figures(&self) -> Vec<u32> {
+        let mut all = self.limiter.figures();
+        all.extend(self.speech.figures());
+        all.extend(self.protector.figures());
+        all.extend(self.controller.figures());
+        all
+    }
+
+    /// The state with these figures.
+    fn read(figures: &[u32]) -> Option<State> {
+        if figures.len() != STATE {
+            return None;
+        }
+        Some(State {
+            limiter: limiter::State::read(&figures[..SPEECH])?,
+            speech: speech::State::read(&figures[SPEECH..PROTECTOR])?,
+            protector: protector::State::read(&figures[PROTECTOR..CONTROLLER])?,
+            controller: controller::State::read(&figures[CONTROLLER..])?,
+        })
+    }
+
+    /// "Protector and controller take this same frame's published level, the controller its headroom too." Answers
+    /// what the frame was: "P carries the level and headroom, a W how many frames are missing".
+    fn step(&mut self, figures: &Figures, channels: &mut [Vec<f32>]) -> Option<[u32; 4]> {
+        let [p, rms, peak, ..] = figures.map(f32::from_bits);
+        self.speech.update(rms, p);
+        let level = self.speech.level;
+        self.protector.analyze(p, peak, level);
+        let known = [figures[0], bits(level), self.speech.confident as u32, figures[3], bits(self.protector.headroom), figures[4]];
+        self.controller.process(&controller::Info(known), channels)?;
+        self.limiter.process(channels);
+        Some(match (judge::is_speech(p), self.speech.threshold - self.speech.count) {
+            (false, _) => [0; 4],
+            (true, 0) => [2, 0, bits(level), bits(self.protector.headroom)],
+            (true, missing) => [1, missing, 0, 0],
+        })
+    }
+
+    fn published(&self) -> Published {
+        [bits(self.speech.level), bits(self.protector.headroom), self.speech.confident as u32, bits(self.controller.gain)]
+    }
+}
+
+/// The states at the edges of the test. A part's edge stands in a chain whose other parts are alike; and then come the
+/// chain's own.
+fn edges() -> Edges {
+    let parts = [limiter::edges(), speech::edges(), protector::edges(), controller::edges()];
+    let mut all = Edges::of(parts.iter().flat_map(|part| part.good.clone()).collect());
+    for (at, part) in [0, SPEECH, PROTECTOR, CONTROLLER].into_iter().zip(&parts) {
+        let mut some = Edges::of(all.good.clone());
+        some.part(at, part);
+        for mut edge in some.all {
+            alike(at, &mut edge.figures);
+            // What is in range for a protector alone is not for a chain.
+            if edge.inside && edge.clause == "protector initial headroom" {
+                continue;
+            }
+            all.all.push(edge);
+        }
+    }
+    // A negative zero in the settings of one part: they are alike, and one fails.
+    for (i, names) in [
+        (0, ["speech headroom setting", "controller headroom setting"]),
+        (2, ["speech initial gain", "controller initial gain"]),
+        (4, ["speech output noise", "controller output noise"]),
+    ] {
+        let mut settings = Settings::USUAL;
+        settings.0[i] = 0;
+        let starting = bits(speech::starting(&settings));
+        for (name, signs) in [(names[0], [MINUS_ZERO, 0]), (names[1], [0, MINUS_ZERO])] {
+            let [one, other] = SETTINGS.map(|at| at + i);
+            all.with(name, false, &[(one, signs[0]), (other, signs[1]), (STARTING, starting)]);
+            all.with(name, true, &[(one, 0), (other, 0), (STARTING, starting)]);
+        }
+    }
+    // Each threshold beside the other two.
+    for (t, name) in [(1, "chain threshold of the protector"), (2, "chain threshold of the controller")] {
+        all.at(name, THRESHOLDS[t], &[3], &[2, 4, 1, 200]);
+    }
+    all.at("chain threshold of the protector", THRESHOLDS[0], &[], &[2, 4]);
+    // Each setting of the controller beside the speech level's, and the other way round, by one place.
+    for (i, name) in ALIKE.into_iter().enumerate() {
+        let usual = Settings::USUAL.at(i);
+        let near = match i {
+            1 => [clauses::below(usual), 1.0_f32.to_bits()],
+            _ => [clauses::below(usual), clauses::above(usual)],
+        };
+        all.at(name, SETTINGS[0] + i, &[usual.to_bits()], &[]);
+        for figure in near {
+            let mut settings = Settings::USUAL;
+            settings.0[i] = figure;
+            all.with(name, false, &[(SETTINGS[1] + i, figure), (CHANGE, bits(controller::change(&settings)))]);
+            all.with(name, false, &[(SETTINGS[0] + i, figure), (STARTING, bits(speech::starting(&settings)))]);
+        }
+    }
+    let initial = [clauses::below(INITIAL), clauses::above(INITIAL), 1, 100.0_f32.to_bits()];
+    all.at("chain initial headroom", PROTECTOR, &[INITIAL.to_bits()], &initial);
+    all.at("protector initial headroom", PROTECTOR, &[INITIAL.to_bits()], &[]);
+    // What no clause speaks of: the applier's samples need not be the chain's, nor the two run counts the same.
+    all.with("applier samples", true, &[(CONTROLLER + 3, 480), (CONTROLLER + 4, (1.0_f32 / 480.0).to_bits())]);
+    all.with("speech count", true, &[(SPEECH + 15, 2), (PROTECTOR + 2, 1)]);
+    all
+}
+
+/// Makes the parts alike to the one that stands at a place, in threshold and settings.
+fn alike(at: usize, figures: &mut [u32]) {
+    let threshold = match at {
+        PROTECTOR => figures[THRESHOLDS[1]],
+        CONTROLLER => figures[THRESHOLDS[2]],
+        _ => figures[THRESHOLDS[0]],
+    };
+    for place in THRESHOLDS {
+        figures[place] = threshold;
+    }
+    let from = SETTINGS[(at == CONTROLLER) as usize];
+    let mut settings = Settings::USUAL;
+    settings.0.copy_from_slice(&figures[from..from + 5]);
+    for place in SETTINGS {
+        figures[place..place + 5].copy_from_slice(&settings.0);
+    }
+    if at == CONTROLLER {
+        figures[STARTING] = bits(speech::starting(&settings));
+    } else {
+        figures[CHANGE] = bits(controller::change(&settings));
+    }
+}
+
+fn clauses_of(figures: &[u32]) -> Option<Vec<Clause>> {
+    Some(State::read(figures)?.clauses())
+}
+
 /// A reading or a cough, with the pause that closes it: how many frames of speech and of pause, and what
 /// their rms, peak, noise and envelope are drawn near to.
 pub struct Passage {
@@ -175,15 +385,26 @@ type Outcome = (Published, Vec<u32>);
 struct Both {
     ruled: ruled::Chain,
     as_is: as_is::Chain,
-    threshold: u32,
-    samples: u32,
-    /// How many adjacent speech frames there are, up to the threshold.
-    run: u32,
+}
+
+impl Both {
+    /// Whether the Rust's four have these states, and then how many zeros of the other sign were let through.
+    fn is_shown(&self, state: &State) -> Option<usize> {
+        let rust = &self.ruled;
+        let controller = judge::values(&format!("{:?}", rust.controller), &controller::NAMES);
+        let same = speech::is_shown(&state.speech, &rust.level)
+            && controller.as_ref() == Some(&state.controller.figures())
+            && limiter::is_shown(&state.limiter, &rust.limiter)
+            && rust.published() == Some(state.published());
+        protector::is_shown(&state.protector, &rust.protector).filter(|_| same)
+    }
 }
 
 #[derive(Default)]
 struct Desk {
-    now: Option<Both>,
+    state: State,
+    /// The Rust's two, where they go along.
+    rust: Option<Both>,
     unlike: Vec<String>,
     departures: [Departure; 4],
     /// Frames of services as they are, and without their coughs; frames changed, coughs, readings.
@@ -194,22 +415,40 @@ struct Desk {
     samples: usize,
     refused: [usize; 5],
     others: usize,
+    /// Refused frames in services, states at the edges, accepted frames by document 01 alone, states handed in anew in
+    /// services, and zeros that were let through.
+    between: usize,
+    at_edges: usize,
+    by_hand: usize,
+    again: usize,
+    zeros: usize,
 }
 
 impl Desk {
     /// Asks; the answer is the reply, whether the chain passes, what the frame was, what is published, and
     /// the samples.
-    fn put(&mut self, name: &str, figures: &[u32], reply: u32, case: [u32; 4], samples: &[u32], to: Ask) -> bool {
-        let mut all = vec![reply, self.now.is_some() as u32];
-        all.extend(case);
-        match &self.now {
-            None => all.extend([0; 4]),
-            Some(both) => match both.ruled.published() {
-                Some(published) => all.extend(published),
-                None => judge::object(&mut self.unlike, "the Rust's controller shows no gain".to_string()),
-            },
+    fn put(&mut self, name: &str, figures: &[u32], reply: u32, case: [u32; 4], rest: &[u32], to: Ask) -> bool {
+        self.put_behind(&[], name, figures, reply, case, rest, to)
+    }
+
+    /// The same, with figures behind the reply.
+    fn put_behind(&mut self, ahead: &[u32], name: &str, figures: &[u32], reply: u32, case: [u32; 4], rest: &[u32], to: Ask) -> bool {
+        let passes = self.state.passes();
+        if let Some(both) = &self.rust {
+            match both.is_shown(&self.state) {
+                Some(zeros) => self.zeros += zeros,
+                None => {
+                    let why = format!("after {} in frame {}: {:08x?}", name, self.frames[0] + self.frames[1], self.state.figures());
+                    judge::object(&mut self.unlike, why);
+                }
+            }
         }
-        all.extend(samples);
+        let mut all = vec![reply];
+        all.extend(ahead);
+        all.push(passes as u32);
+        all.extend(case);
+        all.extend(if passes { self.state.published() } else { [0; 4] });
+        all.extend(rest);
         self.refused[reply as usize] += 1;
         to(lines::question(name, figures), lines::answer(&all))
     }
@@ -222,12 +461,10 @@ impl Desk {
         } else {
             DONE
         };
-        self.now = (reply == DONE).then(|| Both {
+        self.state = if reply == DONE { State::new(settings, threshold, samples) } else { State::default() };
+        self.rust = (reply == DONE).then(|| Both {
             ruled: ruled::Chain::new(&settings, threshold, samples),
             as_is: as_is::Chain::new(&settings, threshold, samples),
-            threshold,
-            samples,
-            run: 0,
         });
         self.others += 1;
         let mut figures = settings.0.to_vec();
@@ -235,10 +472,35 @@ impl Desk {
         self.put("chain.new", &figures, reply, [0; 4], &[], to)
     }
 
-    /// In the order 1, 4, 2, 3. A chain that was refused is set to no samples, so it takes no frame.
+    /// Hands a state in, by its figures.
+    fn set(&mut self, figures: &[u32], to: Ask) -> Option<bool> {
+        self.state = State::read(figures)?;
+        self.rust = None;
+        self.others += 1;
+        Some(self.put("chain.set", figures, DONE, [0; 4], &[], to))
+    }
+
+    /// Hands the state in that there is: the Rust goes on.
+    fn set_again(&mut self, to: Ask) -> bool {
+        self.others += 1;
+        self.again += 1;
+        let figures = self.state.figures();
+        self.put("chain.set", &figures, DONE, [0; 4], &[], to)
+    }
+
+    /// Asks for what is shown of each part, and for what the calls say that only look at the chain.
+    fn look(&mut self, to: Ask) -> bool {
+        self.others += 1;
+        let state = self.state;
+        let ahead = [state.limiter.shown(), state.speech.shown(), state.protector.shown(), state.controller.shown()].concat();
+        let rest = if state.passes() { [DONE, DONE, state.limiter.estimator.samples] } else { [SETTING, SETTING, 0] };
+        self.put_behind(&ahead, "chain.state", &[], DONE, [0; 4], &rest, to)
+    }
+
+    /// In the order 1, 4, 2, 3. The frame is held to the samples that stand in the state, also where it fails.
     fn reply(&self, figures: &Figures, frame: &Frame) -> u32 {
-        let set = matches!(&self.now, Some(both) if both.samples == frame.samples);
-        match frame.reply(set, true, LARGEST) {
+        let set = self.state.limiter.estimator.samples == frame.samples;
+        match frame.reply(set, self.state.passes(), LARGEST) {
             DONE | SAMPLE if !accepted(figures) => FIGURE,
             other => other,
         }
@@ -250,21 +512,23 @@ impl Desk {
         let mut case = [0; 4];
         let mut outcome = None;
         if reply == DONE {
-            if let Some(both) = &mut self.now {
+            let mut sound = frame.sound();
+            match self.state.step(figures, &mut sound) {
+                Some(what) => case = what,
+                None => judge::object(&mut self.unlike, "no applier in a chain".to_string()),
+            }
+            samples = sound::flat(&sound);
+            let ours = self.state.published();
+            self.by_hand += self.rust.is_none() as usize;
+            if let Some(both) = &mut self.rust {
                 let (mut here, mut there) = (frame.sound(), frame.sound());
                 both.ruled.step(figures, &mut here);
                 both.as_is.step(figures, &mut there);
-                samples = sound::flat(&here);
-                let speech = judge::is_speech(f32::from_bits(figures[0]));
-                both.run = if speech { (both.run + 1).min(both.threshold) } else { 0 };
-                let ours = both.ruled.published().unwrap_or_default();
                 let theirs = both.as_is.published().unwrap_or_default();
-                case = match (speech, both.threshold - both.run) {
-                    (false, _) => [0; 4],
-                    (true, 0) => [2, 0, ours[0], ours[1]],
-                    (true, missing) => [1, missing, 0, 0],
-                };
                 let number = self.frames[0] + self.frames[1];
+                if sound::flat(&here) != samples {
+                    judge::object(&mut self.unlike, format!("the samples of frame {}", number));
+                }
                 let place = || format!("frame {}", number);
                 for (found, at) in self.departures.iter_mut().zip([0, 1, 3]) {
                     found.note(f32::from_bits(ours[at]), f32::from_bits(theirs[at]), place);
@@ -272,8 +536,8 @@ impl Desk {
                 for (x, y) in here.iter().flatten().zip(there.iter().flatten()) {
                     self.departures[3].note(*x, *y, place);
                 }
-                outcome = Some((ours, samples.clone()));
             }
+            outcome = Some((ours, samples.clone()));
         }
         self.samples += samples.len();
         let mut asked = vec![frame.channels, frame.samples];
@@ -290,6 +554,16 @@ impl Desk {
         }
         let mut outcomes = Vec::new();
         for step in steps {
+            // Refused frames, the state, and the state handed in as it stands: nothing of it changes what follows.
+            let going = match source.up_to(63) {
+                0 | 1 => self.refused_frame(&step.figures, &step.frame, source, to),
+                2 => self.look(to),
+                3 => self.set_again(to),
+                _ => true,
+            };
+            if !going {
+                return false;
+            }
             match self.step(&step.figures, &step.frame, to) {
                 None => return false,
                 Some(outcome) => outcomes.push(outcome),
@@ -315,6 +589,50 @@ impl Desk {
             self.frames[1] += 1;
         }
         true
+    }
+
+    /// A frame that is refused in the middle of a service, speech or not: for its shape, a figure or a sample.
+    fn refused_frame(&mut self, figures: &Figures, frame: &Frame, source: &mut Random, to: Ask) -> bool {
+        self.between += 1;
+        let (mut figures, mut frame) = (*figures, frame.clone());
+        figures[0] = judge::probability(source.up_to(1) == 1, source);
+        let which = source.up_to(3);
+        if which < 2 {
+            let i = source.up_to(4) as usize;
+            figures[i] = judge::one_of([judge::PROBABILITY, RMS, LEVEL, LEVEL, ENVELOPE][i].wrong, source);
+        }
+        if which > 0 {
+            let some = sound::damaged(&frame, LARGEST);
+            frame = some[source.up_to(some.len() as u32 - 1) as usize].clone();
+        }
+        let reply = self.reply(&figures, &frame);
+        if reply == DONE {
+            judge::object(&mut self.unlike, "a frame that is to be refused is not".to_string());
+        }
+        self.step(&figures, &frame, to).is_some()
+    }
+
+    /// The states at the edges of the test, each with a good frame, one with a wrong figure and a wrong sample, one of a
+    /// wrong length, and what it is then; or a few of them, each with a good frame.
+    fn at_edges(&mut self, few: bool, source: &mut Random, to: Ask) -> bool {
+        let edges = edges();
+        self.unlike.extend(edges.amiss(&IMPLIED, &clauses_of));
+        edges.some(few).iter().all(|edge| {
+            self.at_edges += 1;
+            let going = self.set(&edge.figures, to).unwrap_or(true);
+            let samples = Some(self.state.limiter.estimator.samples).filter(|&n| sound::is_samples(n)).unwrap_or(40);
+            let good = sound::frame(2, 1, samples, LARGEST, source);
+            let mut wrong = good.clone();
+            wrong.data[0] = 0x7fc0_0000;
+            let mut short = wrong.clone();
+            short.data.pop();
+            let mut figures = GOOD;
+            figures[1] = 0x7fc0_0000;
+            going
+                && self.step(&GOOD, &good, to).is_some()
+                && (few || self.step(&figures, &wrong, to).is_some() && self.step(&figures, &short, to).is_some())
+                && self.look(to)
+        })
     }
 
     /// Readings, coughs and pauses, about so many frames, closed by a pause.
@@ -374,6 +692,7 @@ pub fn list(seed: u64, to: Ask) -> Vec<String> {
     let source = &mut Random::new(seed);
     let mut desk = Desk::default();
     desk.damaged(source, to);
+    desk.at_edges(true, source, to);
     for (threshold, channels, samples, frames) in [(1, 1, 40, 6), (2, 1, 40, 20), (3, 2, 40, 20)] {
         let steps = desk.steps(threshold, channels, samples, frames, source);
         let steps = &steps[..steps.len().min(60)];
@@ -408,7 +727,11 @@ impl Part for Chains {
         let source = &mut Random::new(self.seed);
         let desk = &mut self.desk;
         let wanted = self.length.of(10_000, 1_000_000, 80_000);
-        let mut going = self.length == Length::Round || desk.damaged(source, to);
+        let mut going = self.length == Length::Round
+            || (desk.damaged(source, to) && desk.at_edges(false, &mut Random::new(self.seed), to));
+        if self.length == Length::States {
+            return;
+        }
         while going && desk.frames[0] < wanted {
             let threshold = judge::one_of(&judge::THRESHOLDS, source);
             let (channels, samples) = match source.up_to(63) {
@@ -432,12 +755,18 @@ impl Part for Chains {
                 (settings, &[threshold, samples]) => desk.fresh(settings, threshold, samples, to),
                 _ => return None,
             },
+            ("chain.set", state) => desk.set(state, to)?,
+            ("chain.state", []) => desk.look(to),
             ("chain.step", [channels, samples, p, rms, peak, noise, envelope, data @ ..]) => {
                 let frame = Frame::read(&[&[*channels, *samples][..], data].concat())?;
                 desk.step(&[*p, *rms, *peak, *noise, *envelope], &frame, to).is_some()
             }
             _ => return None,
         })
+    }
+
+    fn clauses(&self) -> Vec<&'static str> {
+        edges().names(&IMPLIED, &clauses_of)
     }
 
     fn kinds(&self) -> Vec<(&'static str, usize)> {
@@ -454,6 +783,10 @@ impl Part for Chains {
             ("with 2", desk.refused[FIGURE as usize]),
             ("with 3", desk.refused[SAMPLE as usize]),
             ("calls without a frame", desk.others),
+            ("refused frames in services", desk.between),
+            ("states handed in anew in services", desk.again),
+            ("states at the edges of the test", desk.at_edges),
+            ("accepted frames by the paper alone", desk.by_hand),
         ]
     }
 
@@ -463,6 +796,8 @@ impl Part for Chains {
 
     fn notes(&self) -> Vec<String> {
         let names = ["the level", "the headroom", "the gain in dB", "the samples"];
-        self.desk.departures.iter().zip(names).map(|(found, what)| found.line(what)).collect()
+        let zeros = format!("zeros of unlike sign that the Rust has otherwise, and that were let through: {}", self.desk.zeros);
+        let departures = self.desk.departures.iter().zip(names).map(|(found, what)| found.line(what));
+        std::iter::once(zeros).chain(departures).collect()
     }
 }

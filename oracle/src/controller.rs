@@ -10,6 +10,7 @@
 //! ratio by document 01's tables are apart.
 
 use crate::applier::{self, LARGEST};
+use crate::clauses::{self, Clause, Edges, MINUS_ZERO, NAN};
 use crate::drive::{Ask, Length, Part};
 use crate::judge::{self, Departure, Judge, Settings, Tally, ENVELOPE, HEADROOM, LEVEL, PROBABILITY};
 use crate::lines::{self, bits, DONE, FIGURE, SAMPLE, SETTING};
@@ -24,7 +25,7 @@ use sonora_ruled::speech_level_estimator::AdaptiveDigitalConfig as RuledConfig;
 /// What is known of a frame, as it is asked: probability, level, whether it is trusted, noise, headroom,
 /// envelope.
 #[derive(Clone, Copy)]
-struct Info([u32; 6]);
+pub struct Info(pub [u32; 6]);
 
 /// Where the figures stand in it, with their ranges.
 const FIGURES: [(usize, judge::Range); 5] =
@@ -58,20 +59,34 @@ impl Info {
     }
 }
 
+/// The names of the clauses about the settings.
+const SETTINGS: [&str; 5] = [
+    "controller headroom setting",
+    "controller largest gain",
+    "controller initial gain",
+    "controller change per second",
+    "controller output noise",
+];
+
 /// The controller by document 01.
 #[derive(Clone, Copy, Default)]
-struct State {
+pub struct State {
     applier: applier::State,
-    settings: Settings,
-    threshold: u32,
+    pub settings: Settings,
+    pub threshold: u32,
     change: f32,
     waiting: u32,
-    gain: f32,
+    pub gain: f32,
+}
+
+/// The change in a frame of 10 ms.
+pub fn change(settings: &Settings) -> f32 {
+    settings.at(3) * 10.0 / 1000.0
 }
 
 /// What happened in a frame.
 #[derive(Clone, Copy, Default)]
-struct Seen {
+pub struct Seen {
     by_noise: bool,
     by_envelope: bool,
     first: bool,
@@ -79,7 +94,7 @@ struct Seen {
 }
 
 impl State {
-    fn new(settings: Settings, threshold: u32) -> State {
+    pub fn new(settings: Settings, threshold: u32) -> State {
         let gain = settings.at(2);
         State {
             applier: applier::State {
@@ -91,7 +106,7 @@ impl State {
             },
             settings,
             threshold,
-            change: settings.at(3) * 10.0 / 1000.0,
+            change: change(&settings),
             waiting: threshold,
             gain,
         }
@@ -99,27 +114,40 @@ impl State {
 
     /// "waiting counts 0 to T; gain 0 to 51 dB, a controller's factors to 355; change per frame as its rule
     /// gives it".
-    fn passes(&self) -> bool {
-        self.settings.accepted()
-            && judge::is_threshold(self.threshold)
-            && self.change == self.settings.at(3) * 10.0 / 1000.0
-            && self.waiting <= self.threshold
-            && 0.0 <= self.gain
-            && self.gain <= 51.0
-            && self.applier.passes()
-            && self.applier.last <= 355.0
-            && self.applier.current <= 355.0
+    pub fn clauses(&self) -> Vec<Clause> {
+        let mut all = self.settings.clauses(SETTINGS);
+        all.extend([
+            ("controller threshold", judge::is_threshold(self.threshold)),
+            ("controller change per frame", self.change == change(&self.settings)),
+            ("controller waiting count", self.waiting <= self.threshold),
+            ("controller gain", 0.0 <= self.gain && self.gain <= 51.0),
+            ("controller last factor", self.applier.last <= 355.0),
+            ("controller current factor", self.applier.current <= 355.0),
+        ]);
+        all.extend(self.applier.clauses());
+        all
     }
 
-    fn figures(&self) -> Vec<u32> {
+    pub fn passes(&self) -> bool {
+        clauses::hold(&self.clauses())
+    }
+
+    pub fn figures(&self) -> Vec<u32> {
         let mut all = self.applier.figures().to_vec();
         all.extend(self.settings.figures());
         all.extend([self.threshold, bits(self.change), self.waiting, bits(self.gain)]);
         all
     }
 
+    /// The state, and whether it passes.
+    pub fn shown(&self) -> Vec<u32> {
+        let mut all = self.figures();
+        all.push(self.passes() as u32);
+        all
+    }
+
     /// The state with these figures.
-    fn read(figures: &[u32]) -> Option<State> {
+    pub fn read(figures: &[u32]) -> Option<State> {
         match figures {
             [clip, last, current, samples, inverse, rest @ ..] => {
                 let (settings, rest) = Settings::read(rest)?;
@@ -140,7 +168,7 @@ impl State {
     }
 
     /// "an increase only after T adjacent speech frames, the first of them up to T times larger".
-    fn process(&mut self, info: &Info, channels: &mut [Vec<f32>]) -> Option<Seen> {
+    pub fn process(&mut self, info: &Info, channels: &mut [Vec<f32>]) -> Option<Seen> {
         let mut seen = Seen::default();
         let (headroom, most) = (self.settings.at(0), self.settings.at(1));
         let level = info.at(1) + info.at(4);
@@ -183,7 +211,7 @@ impl State {
     }
 }
 
-const NAMES: [&str; 16] = [
+pub const NAMES: [&str; 16] = [
     "gain_applier",
     "hard_clip_samples",
     "last_gain_factor",
@@ -293,8 +321,7 @@ impl Desk {
             }
         }
         let mut all = vec![reply];
-        all.extend(ours);
-        all.push(state.passes() as u32);
+        all.extend(state.shown());
         all.extend(rest);
         to(lines::question(name, figures), lines::answer(&all))
     }
@@ -422,6 +449,10 @@ impl Judge for Desk {
         &mut self.tally
     }
 
+    fn object(&mut self, why: Vec<String>) {
+        self.unlike.extend(why);
+    }
+
     fn has_the_rust(&self) -> bool {
         self.now.rust.is_some()
     }
@@ -533,46 +564,16 @@ impl Judge for Desk {
             })
     }
 
-    /// Each setting, the threshold, the change in a frame, the waiting count, the gain, and the applier's
-    /// figures, outside of what they may be.
-    fn fail(&mut self, which: usize, to: Ask) -> Option<bool> {
-        let good = State::new(Settings::USUAL, 3);
-        let mut all: Vec<State> = Vec::new();
-        let mut with = |change: &dyn Fn(&mut State)| {
-            let mut state = good;
-            change(&mut state);
-            all.push(state);
-        };
-        for settings in Settings::wrong().into_iter().step_by(3) {
-            with(&|s| s.settings = settings);
-        }
-        for t in judge::WRONG_THRESHOLDS {
-            with(&|s| s.threshold = t);
-        }
-        for b in [0x3d75_c290, 0x3d75_c28e, 0, 0x7fc0_0000] {
-            with(&|s| s.change = f32::from_bits(b));
-        }
-        for waiting in [4, u32::MAX] {
-            with(&|s| s.waiting = waiting);
-        }
-        for b in [0x8000_0001, 0x424c_0001, 0x7fc0_0000, 0x7f80_0000] {
-            with(&|s| s.gain = f32::from_bits(b));
-        }
-        for b in [0x43b1_8001, 0, 0x8000_0000, 0x4400_0000, 0x7fc0_0000] {
-            with(&|s| s.applier.last = f32::from_bits(b));
-            with(&|s| s.applier.current = f32::from_bits(b));
-        }
-        for samples in [0, 20, 50, 500, -2] {
-            with(&|s| {
-                s.applier.samples = samples;
-                s.applier.inverse = 1.0 / samples as f32;
-            });
-        }
-        with(&|s| s.applier.inverse = 1.0);
-        let state = *all.get(which)?;
-        if state.passes() {
-            judge::object(&mut self.unlike, format!("the state {} is to fail", which));
-        }
+    fn edges(&self) -> Edges {
+        edges()
+    }
+
+    fn amiss(&self) -> Vec<String> {
+        edges().amiss(&[], &clauses_of)
+    }
+
+    fn at_edge(&mut self, figures: &[u32], to: Ask) -> Option<bool> {
+        let state = State::read(figures)?;
         Some(self.set(state, to))
     }
 
@@ -585,8 +586,40 @@ impl Judge for Desk {
             data: Vec::new(),
         };
         // 4 before 2 and 3, and 1 before 4.
-        self.process(&GOOD.with(0, 0x7fc0_0000), &frame, to) && self.process(&GOOD, &empty, to)
+        let good = short_frame(source);
+        self.process(&GOOD, &good, to)
+            && self.process(&GOOD.with(0, 0x7fc0_0000), &frame, to) && self.process(&GOOD, &empty, to)
     }
+}
+
+/// Where the figures stand in a state.
+const THRESHOLD: usize = 10;
+const CHANGE: usize = 11;
+const WAITING: usize = 12;
+
+/// The states at the edges of the test.
+pub fn edges() -> Edges {
+    let mut good = State::new(Settings::USUAL, 3);
+    good.waiting = 0;
+    let mut all = Edges::of(good.figures());
+    Settings::add_edges(&mut all, 5, SETTINGS, &|settings| (CHANGE, bits(change(settings))));
+    all.at("controller threshold", THRESHOLD, &[1, 200], &judge::WRONG_THRESHOLDS);
+    let usual = change(&Settings::USUAL);
+    all.at("controller change per frame", CHANGE, &[usual.to_bits()], &[clauses::below(usual), clauses::above(usual), 0, NAN]);
+    for (threshold, waiting) in [(3, 0), (3, 3), (200, 200), (1, 1), (3, 4), (200, 201), (1, 2), (3, u32::MAX)] {
+        all.with("controller waiting count", waiting <= threshold, &[(THRESHOLD, threshold), (WAITING, waiting)]);
+    }
+    all.between("controller gain", GAIN, 0.0, 51.0);
+    all.at("controller gain", GAIN, &[MINUS_ZERO], &[]);
+    let most = 355.0_f32.to_bits();
+    all.at("controller last factor", 1, &[most], &[most + 1, 0x43ff_ffff]);
+    all.at("controller current factor", 2, &[most], &[most + 1, 0x43ff_ffff]);
+    applier::add_edges(&mut all, 0, most);
+    all
+}
+
+fn clauses_of(figures: &[u32]) -> Option<Vec<Clause>> {
+    Some(State::read(figures)?.clauses())
 }
 
 /// The questions of the fixed list.
@@ -643,6 +676,10 @@ impl Part for Controllers {
             }
             _ => return None,
         })
+    }
+
+    fn clauses(&self) -> Vec<&'static str> {
+        edges().names(&[], &clauses_of)
     }
 
     fn kinds(&self) -> Vec<(&'static str, usize)> {

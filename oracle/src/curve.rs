@@ -4,6 +4,7 @@
 //! By hand from document 01 are the refusals, a state that the Rust's types cannot hold, and a
 //! duration at its largest value, which is held there while the Rust's rolls over.
 
+use crate::clauses::{self, Clause, Edges};
 use crate::drive::{Ask, Length, Part};
 use crate::lines::{self, bits, halves, DONE, FIGURE, SETTING};
 use crate::random::Random;
@@ -70,8 +71,12 @@ pub const FRESH: State = State {
 
 impl State {
     /// A region that there is; "duration not negative".
+    pub fn clauses(&self) -> Vec<Clause> {
+        vec![("curve region", self.region <= 3), ("curve duration", self.duration >= 0)]
+    }
+
     pub fn passes(&self) -> bool {
-        self.region <= 3 && self.duration >= 0
+        clauses::hold(&self.clauses())
     }
 
     pub fn figures(&self) -> Vec<u32> {
@@ -318,6 +323,35 @@ fn sequence(desk: &mut Desk, source: &mut Random, calls: usize, to: Ask) -> bool
     going
 }
 
+/// The states at the edges of the test.
+pub fn edges() -> Edges {
+    let mut all = Edges::of(vec![0, 1, 2, 3, u32::MAX, u32::MAX, 6, 7, 1, 2, 0, 9]);
+    all.at("curve region", 9, &[0, 3], &[4, 5, 1 << 31, u32::MAX]);
+    for duration in [0, 1, i64::MAX, -1, i64::MIN, -(1 << 32)] {
+        let [high, low] = halves(duration as u64);
+        all.with("curve duration", duration >= 0, &[(10, high), (11, low)]);
+    }
+    all
+}
+
+fn clauses_of(figures: &[u32]) -> Option<Vec<Clause>> {
+    Some(State::read(figures)?.clauses())
+}
+
+/// Each state at an edge of the test, or a few of them, with every call.
+fn at_edges(desk: &mut Desk, few: bool, to: Ask) -> bool {
+    let edges = edges();
+    desk.unlike.extend(edges.amiss(&[], &clauses_of));
+    edges.some(few).iter().all(|edge| {
+        let state = State::read(&edge.figures).unwrap_or(FRESH);
+        desk.set(state, to)
+            && desk.stats(to)
+            && desk.level(REGIONS[2].to_bits(), to)
+            && desk.level(0x7fc0_0000, to)
+            && desk.stats(to)
+    })
+}
+
 /// The questions of the fixed list: the edges, every knot with 4 floats on both sides, states at the
 /// roll-over, and a sequence.
 pub fn list(seed: u64, to: Ask) -> Vec<String> {
@@ -354,6 +388,7 @@ pub fn list(seed: u64, to: Ask) -> Vec<String> {
         desk.level(0, to);
         desk.level(0x7fc0_0000, to);
     }
+    at_edges(&mut desk, true, to);
     desk.fresh(to);
     sequence(&mut desk, &mut Random::new(seed), 300, to);
     desk.unlike
@@ -391,6 +426,8 @@ impl Part for Curves {
         near.extend(near_places(4));
         if self.length == Length::Round {
             near.clear();
+        } else if !(at_edges(&mut self.desk, false, to) && self.length != Length::States && self.desk.fresh(to)) {
+            return;
         }
         for level in near {
             self.near += 1;
@@ -419,6 +456,10 @@ impl Part for Curves {
             ("curve.stats", []) => desk.stats(to),
             _ => return None,
         })
+    }
+
+    fn clauses(&self) -> Vec<&'static str> {
+        edges().names(&[], &clauses_of)
     }
 
     fn kinds(&self) -> Vec<(&'static str, usize)> {

@@ -21,13 +21,15 @@ pub enum Length {
     Long,
     /// Random questions alone: a round of scale.rs.
     Round,
+    /// The states at the edges of the test of a handed-in state alone.
+    States,
 }
 
 impl Length {
     /// What goes with it.
     pub fn of<T>(self, short: T, long: T, round: T) -> T {
         match self {
-            Length::Short => short,
+            Length::Short | Length::States => short,
             Length::Long => long,
             Length::Round => round,
         }
@@ -42,6 +44,10 @@ pub trait Part: Send {
     /// Asks one question that is given, from the state that those before it left: what `ask` answers.
     /// None where the part has no such question.
     fn again(&mut self, name: &str, figures: &[u32], to: Ask) -> Option<bool>;
+    /// The clauses of the test of its state, each of which the comparison must look at.
+    fn clauses(&self) -> Vec<&'static str> {
+        Vec::new()
+    }
     /// How many questions of each kind were asked.
     fn kinds(&self) -> Vec<(&'static str, usize)>;
     /// Where the Rust itself and what the oracle has by hand from document 01 do not agree.

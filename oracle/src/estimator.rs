@@ -6,6 +6,7 @@
 //! brought about in the Rust by a frame that ends at it. Where none is found, and where a state fails
 //! its test, the answers are held to document 01 alone, and those frames are counted apart.
 
+use crate::clauses::{self, Clause, Edges, MINUS_ZERO};
 use crate::drive::{Ask, Length, Part};
 use crate::lines::{self, bits, DONE, SETTING, SHAPE};
 use crate::random::Random;
@@ -36,8 +37,28 @@ impl State {
     }
 
     /// "envelope 0 to 33554432"; samples a shape's; "sub-frame length as its rule gives it".
+    pub fn clauses(&self) -> Vec<Clause> {
+        vec![
+            ("estimator envelope", (0.0..=LARGEST).contains(&self.level)),
+            ("estimator samples", is_samples(self.samples)),
+            ("estimator sub-frame length", self.part == self.samples / 20),
+        ]
+    }
+
     pub fn passes(&self) -> bool {
-        (0.0..=LARGEST).contains(&self.level) && is_samples(self.samples) && self.part == self.samples / 20
+        clauses::hold(&self.clauses())
+    }
+
+    /// The state with these figures.
+    fn read(figures: &[u32]) -> Option<State> {
+        match *figures {
+            [level, samples, part] => Some(State {
+                level: f32::from_bits(level),
+                samples,
+                part,
+            }),
+            _ => None,
+        }
     }
 
     pub fn figures(&self) -> [u32; 3] {
@@ -108,18 +129,23 @@ pub fn is_shown(state: &State, text: &str) -> bool {
         && field(text, "samples_in_sub_frame") == Some(state.part)
 }
 
-/// States that fail.
-pub const FAILING: [(u32, [u32; 2]); 9] = [
-    (0x8000_0001, [40, 2]), // a level below 0
-    (0x4c00_0001, [40, 2]), // above 33554432
-    (0x7f80_0000, [40, 2]),
-    (0x7fc0_0000, [40, 2]),
-    (0, [40, 3]),
-    (0, [40, 0]),
-    (0, [0, 0]),
-    (0, [50, 2]),
-    (0, [500, 25]),
-];
+/// The states at the edges of the test.
+pub fn edges() -> Edges {
+    let mut all = Edges::of(vec![100.0_f32.to_bits(), 40, 2]);
+    all.between("estimator envelope", 0, 0.0, LARGEST);
+    all.at("estimator envelope", 0, &[MINUS_ZERO], &[]);
+    for samples in [40, 60, 480, 0, 20, 39, 41, 50, 479, 481, 500, 1 << 31, u32::MAX] {
+        all.with("estimator samples", is_samples(samples), &[(1, samples), (2, samples / 20)]);
+    }
+    for (samples, part) in [(40, 2), (480, 24), (40, 0), (40, 1), (40, 3), (480, 23), (480, 25), (40, u32::MAX)] {
+        all.with("estimator sub-frame length", part == samples / 20, &[(1, samples), (2, part)]);
+    }
+    all
+}
+
+fn clauses_of(figures: &[u32]) -> Option<Vec<Clause>> {
+    Some(State::read(figures)?.clauses())
+}
 
 /// A level that is handed in.
 pub fn any_level(source: &mut Random) -> u32 {
@@ -245,6 +271,10 @@ impl Player for Desk {
         &mut self.tally
     }
 
+    fn object(&mut self, why: Vec<String>) {
+        self.unlike.extend(why);
+    }
+
     fn bound(&self) -> f32 {
         LARGEST
     }
@@ -295,9 +325,19 @@ impl Player for Desk {
         }
     }
 
-    fn fail(&mut self, which: usize, to: Ask) -> Option<bool> {
-        let &(level, set) = FAILING.get(which)?;
-        Some(self.set(level, set, to))
+    fn edges(&self) -> Edges {
+        edges()
+    }
+
+    fn amiss(&self) -> Vec<String> {
+        edges().amiss(&[], &clauses_of)
+    }
+
+    fn at_edge(&mut self, figures: &[u32], to: Ask) -> Option<bool> {
+        match *figures {
+            [level, samples, part] => Some(self.set(level, [samples, part], to)),
+            _ => None,
+        }
     }
 
     fn refuse(&mut self, to: Ask) -> bool {
@@ -348,6 +388,10 @@ impl Part for Estimators {
             ("estimator.level", frame) => desk.play(&Frame::read(frame)?, to),
             _ => return None,
         })
+    }
+
+    fn clauses(&self) -> Vec<&'static str> {
+        edges().names(&[], &clauses_of)
     }
 
     fn kinds(&self) -> Vec<(&'static str, usize)> {

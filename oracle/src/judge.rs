@@ -2,6 +2,7 @@
 //! settings, thresholds, runs of speech frames, figures at the ends of their ranges, and the Rust's
 //! `Debug` form.
 
+use crate::clauses::{Clause, Edges};
 use crate::drive::{Ask, Length};
 use crate::lines::{bits, DONE, FIGURE, SAMPLE, SETTING, SHAPE};
 use crate::random::Random;
@@ -174,15 +175,39 @@ impl Settings {
 
     /// "headroom 0 to 50; largest gain above 0, to 50; initial gain 0 to 50; change per second 0.01 to
     /// 100; largest output noise -90 to 0. A negative zero is refused in a setting".
+    fn holds(&self) -> [bool; 5] {
+        let within = |i: usize, low: f32, high: f32| {
+            low <= self.at(i) && self.at(i) <= high && self.0[i] != 0x8000_0000
+        };
+        [
+            within(0, 0.0, 50.0),
+            within(1, 0.0, 50.0) && self.at(1) > 0.0,
+            within(2, 0.0, 50.0),
+            within(3, 0.01, 100.0),
+            within(4, -90.0, 0.0),
+        ]
+    }
+
     pub fn accepted(&self) -> bool {
-        let within = |i: usize, low: f32, high: f32| low <= self.at(i) && self.at(i) <= high;
-        within(0, 0.0, 50.0)
-            && within(1, 0.0, 50.0)
-            && self.at(1) > 0.0
-            && within(2, 0.0, 50.0)
-            && within(3, 0.01, 100.0)
-            && within(4, -90.0, 0.0)
-            && !self.0.contains(&0x8000_0000)
+        self.holds().into_iter().all(|holds| holds)
+    }
+
+    /// A clause for each, by these names.
+    pub fn clauses(&self, names: [&'static str; 5]) -> Vec<Clause> {
+        names.into_iter().zip(self.holds()).collect()
+    }
+
+    /// The edges of these clauses, where the settings stand from a place on: each setting at both ends, and what is
+    /// refused of it. What else goes with the settings is worked out.
+    pub fn add_edges(all: &mut Edges, place: usize, names: [&'static str; 5], with: &dyn Fn(&Settings) -> (usize, u32)) {
+        for (i, name) in names.into_iter().enumerate() {
+            let ends = ENDS[i].iter().map(|&b| (b, true));
+            for (figure, inside) in ends.chain(WRONG[i].iter().map(|&b| (b, false))) {
+                let mut settings = Settings::USUAL;
+                settings.0[i] = figure;
+                all.with(name, inside, &[(place + i, figure), with(&settings)]);
+            }
+        }
     }
 
     pub fn figures(&self) -> [u32; 5] {
@@ -318,8 +343,13 @@ pub trait Judge {
     fn each_figure(&mut self, source: &mut Random, to: Ask) -> bool;
     /// A new one with each setting at its ends and outside of them, and a short run with each.
     fn each_setting(&mut self, source: &mut Random, to: Ask) -> bool;
-    /// Hands in one of the states that fail; none where there are no more.
-    fn fail(&mut self, which: usize, to: Ask) -> Option<bool>;
+    /// Notes what is amiss with the comparison itself.
+    fn object(&mut self, why: Vec<String>);
+    /// The states at the edges of the test, and what is amiss with them.
+    fn edges(&self) -> Edges;
+    fn amiss(&self) -> Vec<String>;
+    /// Hands in the state with these figures; none where there is no such state.
+    fn at_edge(&mut self, figures: &[u32], to: Ask) -> Option<bool>;
     /// Each call that a failing state refuses.
     fn refuse(&mut self, source: &mut Random, to: Ask) -> bool;
 }
@@ -390,13 +420,15 @@ fn runs(judge: &mut dyn Judge, threshold: u32, frames: usize, source: &mut Rando
     going
 }
 
-fn failing(judge: &mut dyn Judge, source: &mut Random, to: Ask) -> bool {
-    let mut which = 0;
-    while let Some(going) = judge.fail(which, to) {
+/// Each state at an edge of the test, inside and outside, or a few of them, with every call.
+fn at_edges(judge: &mut dyn Judge, few: bool, source: &mut Random, to: Ask) -> bool {
+    let amiss = judge.amiss();
+    judge.object(amiss);
+    for edge in judge.edges().some(few) {
+        let going = judge.at_edge(&edge.figures, to).unwrap_or(true);
         if !going || !judge.refuse(source, to) {
             return false;
         }
-        which += 1;
     }
     true
 }
@@ -405,22 +437,25 @@ fn failing(judge: &mut dyn Judge, source: &mut Random, to: Ask) -> bool {
 pub fn play(judge: &mut dyn Judge, seed: u64, length: Length, frames: usize, to: Ask) -> bool {
     let source = &mut Random::new(seed);
     let fixed = length != Length::Round;
+    if length == Length::States {
+        return at_edges(judge, false, source, to);
+    }
     judge.renew(2, source, to)
         && (!fixed || judge.each_figure(source, to))
         && (!fixed || judge.each_setting(source, to))
-        && (!fixed || failing(judge, source, to))
+        && (!fixed || at_edges(judge, false, source, to))
         && THRESHOLDS.iter().all(|&t| boundaries(judge, t, source, to))
         && THRESHOLDS.iter().all(|&t| runs(judge, t, frames / THRESHOLDS.len(), source, to))
 }
 
-/// The questions of the fixed list that all have: each figure's ends, each setting's, the states that fail,
-/// and runs of some thresholds.
+/// The questions of the fixed list that all have: each figure's ends, each setting's, states at the edges of the
+/// test, and runs of some thresholds.
 pub fn list(judge: &mut dyn Judge, seed: u64, thresholds: &[u32], to: Ask) {
     let source = &mut Random::new(seed);
     judge.renew(2, source, to);
     judge.each_figure(source, to);
     judge.each_setting(source, to);
-    failing(judge, source, to);
+    at_edges(judge, true, source, to);
     for &t in thresholds {
         judge.renew(t, source, to);
         for length in [t - 1, t - 1, t, t, t + 1, t + 1] {

@@ -9,6 +9,7 @@
 //! The Rust as it stands goes along over the same frames, and shows how far its power function and the
 //! eighth power by three squarings are apart.
 
+use crate::clauses::{self, Clause, Edges, NOT_ABOVE_ZERO, NO_NUMBERS};
 use crate::curve;
 use crate::drive::{Ask, Length, Part};
 use crate::estimator::{self, LARGEST};
@@ -21,9 +22,9 @@ use sonora_ruled::rules::eighth_power;
 
 /// The limiter by document 01.
 #[derive(Clone, Copy)]
-struct State {
+pub struct State {
     carried: f32,
-    estimator: estimator::State,
+    pub estimator: estimator::State,
     curve: curve::State,
 }
 
@@ -38,7 +39,7 @@ impl Default for State {
 }
 
 impl State {
-    fn new(samples: u32) -> State {
+    pub fn new(samples: u32) -> State {
         State {
             carried: 1.0,
             estimator: estimator::State::new(samples),
@@ -47,19 +48,33 @@ impl State {
     }
 
     /// "carried factor above 0, below 2".
-    fn passes(&self) -> bool {
-        self.estimator.passes() && self.curve.passes() && 0.0 < self.carried && self.carried < 2.0
+    pub fn clauses(&self) -> Vec<Clause> {
+        let mut all = vec![("limiter carried factor", 0.0 < self.carried && self.carried < 2.0)];
+        all.extend(self.estimator.clauses());
+        all.extend(self.curve.clauses());
+        all
     }
 
-    fn figures(&self) -> Vec<u32> {
+    pub fn passes(&self) -> bool {
+        clauses::hold(&self.clauses())
+    }
+
+    pub fn figures(&self) -> Vec<u32> {
         let mut all = vec![bits(self.carried)];
         all.extend(self.estimator.figures());
         all.extend(self.curve.figures());
         all
     }
 
+    /// The state, and what each call says that only looks at it: whether it passes, and the last level.
+    pub fn shown(&self) -> Vec<u32> {
+        let mut all = self.figures();
+        all.extend(if self.passes() { [1, DONE, bits(self.estimator.level)] } else { [0, SETTING, 0] });
+        all
+    }
+
     /// The state with these figures.
-    fn read(figures: &[u32]) -> Option<State> {
+    pub fn read(figures: &[u32]) -> Option<State> {
         match figures {
             [carried, level, samples, part, curve @ ..] => Some(State {
                 carried: f32::from_bits(*carried),
@@ -77,7 +92,7 @@ impl State {
     /// "Sample j of a sub-frame of s samples has start + ((end-start)/s)*j. If the carried factor is
     /// above the first new one, the first sub-frame uses the eighth power of 1-t, t = j/s, times the
     /// difference, plus the new one." Then the product, clipped.
-    fn process(&mut self, channels: &mut [Vec<f32>]) {
+    pub fn process(&mut self, channels: &mut [Vec<f32>]) {
         let levels = self.estimator.envelope(channels);
         let size = self.estimator.part as usize;
         let s = size as f32;
@@ -102,7 +117,7 @@ impl State {
 }
 
 /// Whether the Rust's limiter has this state.
-fn is_shown(state: &State, other: &Published) -> bool {
+pub fn is_shown(state: &State, other: &Published) -> bool {
     let text = format!("{:?}", other);
     let curve = &state.curve;
     let names = [
@@ -204,8 +219,7 @@ impl Desk {
             }
         }
         let mut all = vec![reply];
-        all.extend(state.figures());
-        all.extend(if state.passes() { [1, DONE, bits(state.estimator.level)] } else { [0, SETTING, 0] });
+        all.extend(state.shown());
         all.extend(rest);
         to(lines::question(name, figures), lines::answer(&all))
     }
@@ -291,6 +305,10 @@ impl Player for Desk {
         &mut self.tally
     }
 
+    fn object(&mut self, why: Vec<String>) {
+        self.unlike.extend(why);
+    }
+
     fn bound(&self) -> f32 {
         LARGEST
     }
@@ -356,33 +374,41 @@ impl Player for Desk {
         }
     }
 
-    /// A carried factor that fails, a level estimator's state that does, and a curve's.
-    fn fail(&mut self, which: usize, to: Ask) -> Option<bool> {
-        let mut state = State::new(40);
-        let carried = [0x0000_0000, 0x8000_0000, 0x4000_0000, 0xbf80_0000, 0x7fc0_0000, 0x7f80_0000];
-        if which < carried.len() {
-            state.carried = f32::from_bits(carried[which]);
-        } else if which < carried.len() + estimator::FAILING.len() {
-            let (level, [samples, part]) = estimator::FAILING[which - carried.len()];
-            state.estimator = estimator::State {
-                level: f32::from_bits(level),
-                samples,
-                part,
-            };
-        } else {
-            match which - carried.len() - estimator::FAILING.len() {
-                0 => state.curve.region = 4,
-                1 => state.curve.duration = -1,
-                2 => state.curve.duration = i64::MIN,
-                _ => return None,
-            }
-        }
+    fn edges(&self) -> Edges {
+        edges()
+    }
+
+    fn amiss(&self) -> Vec<String> {
+        edges().amiss(&[], &clauses_of)
+    }
+
+    fn at_edge(&mut self, figures: &[u32], to: Ask) -> Option<bool> {
+        let state = State::read(figures)?;
         Some(self.set(state, to))
     }
 
     fn refuse(&mut self, to: Ask) -> bool {
         self.reset(to) && self.change(80, to) && self.change(50, to)
     }
+}
+
+/// The states at the edges of the test.
+pub fn edges() -> Edges {
+    let (estimator, curve) = (estimator::edges(), curve::edges());
+    let mut good = vec![1.0_f32.to_bits()];
+    good.extend(&estimator.good);
+    good.extend(&curve.good);
+    let mut all = Edges::of(good);
+    all.at("limiter carried factor", 0, &[1, 0x3fff_ffff], &NOT_ABOVE_ZERO);
+    all.at("limiter carried factor", 0, &[], &[0x4000_0000, 0x4000_0001]);
+    all.at("limiter carried factor", 0, &[], &NO_NUMBERS);
+    all.part(1, &estimator);
+    all.part(1 + estimator.good.len(), &curve);
+    all
+}
+
+fn clauses_of(figures: &[u32]) -> Option<Vec<Clause>> {
+    Some(State::read(figures)?.clauses())
 }
 
 /// The questions of the fixed list.
@@ -428,6 +454,10 @@ impl Part for Limiters {
             ("limiter.process", frame) => desk.play(&Frame::read(frame)?, to),
             _ => return None,
         })
+    }
+
+    fn clauses(&self) -> Vec<&'static str> {
+        edges().names(&[], &clauses_of)
     }
 
     fn kinds(&self) -> Vec<(&'static str, usize)> {

@@ -9,7 +9,7 @@ use crate::{applier, chain, controller, curve, estimator, limiter, protector, ra
 const SEED: u64 = 1;
 
 /// Lines that are no question: each is answered ?.
-const NOT_ASKED: [&str; 59] = [
+const NOT_ASKED: [&str; 64] = [
     "",
     " ",
     ".",
@@ -69,6 +69,11 @@ const NOT_ASKED: [&str; 59] = [
     "chain",
     "chain.new 40a00000 42480000 41700000 40c00000 c2480000 00000002",
     "chain.step 00000001 00000028 3f800000 c2200000 c1a00000 c2b40000",
+    "chain.set",
+    "chain.set 40a00000 42480000 41700000 40c00000 c2480000 00000002 00000028",
+    "chain.state 00000000",
+    "chain.states",
+    "n0=ring.new",
 ];
 
 /// The questions with their answers. The last line is cut: it has no line feed.

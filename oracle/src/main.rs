@@ -2,9 +2,13 @@
 //!
 //!   oracle list questions                 the fixed list, as the program `replay` reads it
 //!   oracle list answers                   what the program must write
-//!   oracle replay                         reads questions, and prints what the program `replay` must answer
-//!   oracle compare [--seed N] [--only PART] --short|--long -- COMMAND..
-//!                                         asks COMMAND and the Rust, and compares bit by bit
+//!   oracle replay [--without CLAUSE]      reads questions, and prints what the program `replay` must answer; or, as a
+//!                                         wrong program, what it would answer if the test of a handed-in state had
+//!                                         no such clause
+//!   oracle clauses PART                   the clauses of a part's test, each of which the comparison looks at
+//!   oracle compare [--seed N] [--only PART] --short|--long|--states -- COMMAND..
+//!                                         asks COMMAND and the Rust, and compares bit by bit; --states asks about
+//!                                         the test of a handed-in state alone
 //!   oracle scale [--seed N] [--minutes M | --rounds R] [--only PART] -- COMMAND..
 //!                                         the same at scale, in rounds of random questions with the seeds N,
 //!                                         N+1 and so on, and counts them: R rounds (1), or whole rounds until
@@ -25,6 +29,7 @@
 mod again;
 mod applier;
 mod chain;
+mod clauses;
 mod controller;
 mod curve;
 mod drive;
@@ -51,8 +56,9 @@ use std::io::{stdin, stdout, BufReader, BufWriter};
 use std::process::exit;
 
 const USAGE: &str = "usage: oracle list questions|answers
-       oracle replay
-       oracle compare [--seed N] [--only PART] --short|--long -- COMMAND..
+       oracle replay [--without CLAUSE]
+       oracle clauses PART
+       oracle compare [--seed N] [--only PART] --short|--long|--states -- COMMAND..
        oracle scale [--seed N] [--minutes M | --rounds R] [--only PART] -- COMMAND..
        oracle strip
        oracle strips [--seed N] [--count N] -- COMMAND..
@@ -85,6 +91,7 @@ fn wish(words: &[String]) -> Wish {
             },
             "--short" => length = Some(Length::Short),
             "--long" => length = Some(Length::Long),
+            "--states" => length = Some(Length::States),
             "--" => break,
             _ => usage(),
         }
@@ -166,7 +173,10 @@ fn parts(seed: u64, length: Length) -> Vec<Box<dyn Part>> {
 
 /// Compares one part, and returns how many answers differ.
 fn compare_part(wish: &Wish, part: &mut dyn Part) -> usize {
-    let length = wish.length.of("short", "long", "round");
+    let length = match wish.length {
+        Length::States => "states",
+        length => length.of("short", "long", "round"),
+    };
     println!("{}, {} run, seed {}, {}:", part.name(), length, wish.seed, std::env::consts::ARCH);
     let found = match drive::differences(&wish.command, part) {
         Ok(found) => found,
@@ -203,6 +213,7 @@ fn wanted(seed: u64, length: Length, only: &Option<String>) -> Vec<Box<dyn Part>
 
 fn compare(wish: &Wish) -> usize {
     let mut all = wanted(wish.seed, wish.length, &wish.only);
+    all.retain(|part| wish.length != Length::States || !part.clauses().is_empty());
     all.iter_mut().map(|part| compare_part(wish, part.as_mut())).sum()
 }
 
@@ -231,7 +242,13 @@ fn main() {
             let good = scale::compare(&scale_wish(&words[1..]));
             exit(if good { 0 } else { 1 });
         }
-        Some("replay") if words.len() == 1 => {
+        Some("clauses") if words.len() == 2 => {
+            for part in wanted(1, Length::States, &Some(words[1].clone())) {
+                part.clauses().iter().for_each(|name| println!("{}", name));
+            }
+        }
+        Some("replay") if words.len() == 1 || (words.len() == 3 && words[1] == "--without") => {
+            words.get(2).iter().for_each(|name| clauses::leave_out(name));
             let (mut input, mut output) = (BufReader::new(stdin()), BufWriter::new(stdout()));
             match again::replay(&mut input, &mut output) {
                 Ok(unlike) if unlike.is_empty() => {}

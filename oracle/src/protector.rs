@@ -10,6 +10,7 @@
 //! The largest peak can meet two zeros of unlike sign. Here the first is kept, as the Rust does on x86-64;
 //! on Arm the Rust has +0 there, and exactly that is let through.
 
+use crate::clauses::{self, Clause, Edges, MINUS_ZERO};
 use crate::drive::{Ask, Length, Part};
 use crate::judge::{self, Departure, Judge, Tally, HEADROOM, LEVEL, PROBABILITY};
 use crate::lines::{self, bits, DONE, FIGURE, SETTING};
@@ -29,6 +30,24 @@ fn is_headroom(x: f32) -> bool {
 fn is_level(x: f32) -> bool {
     -150.0 <= x && x <= 50.0
 }
+
+/// The names of the clauses about each of the two states.
+const PRELIMINARY: [&str; 6] = [
+    "protector preliminary headroom",
+    "protector preliminary place",
+    "protector preliminary size",
+    "protector preliminary storage",
+    "protector preliminary largest peak",
+    "protector preliminary time",
+];
+const RELIABLE: [&str; 6] = [
+    "protector reliable headroom",
+    "protector reliable place",
+    "protector reliable size",
+    "protector reliable storage",
+    "protector reliable largest peak",
+    "protector reliable time",
+];
 
 #[derive(Clone, Copy, Default)]
 struct Peaks {
@@ -51,14 +70,16 @@ impl Peaks {
 
     /// "a protector's largest peak and ring storage -150 to 50; times 0 to 400 in tens; ring place 0 to 3,
     /// size 0 to 4".
-    fn passes(&self) -> bool {
-        is_headroom(self.headroom)
-            && self.place <= 3
-            && self.size <= 4
-            && self.stored.iter().all(|&x| is_level(x))
-            && is_level(self.largest)
-            && self.elapsed <= 400
-            && self.elapsed % 10 == 0
+    fn clauses(&self, names: [&'static str; 6]) -> [Clause; 6] {
+        let [headroom, place, size, storage, largest, time] = names;
+        [
+            (headroom, is_headroom(self.headroom)),
+            (place, self.place <= 3),
+            (size, self.size <= 4),
+            (storage, self.stored.iter().all(|&x| is_level(x))),
+            (largest, is_level(self.largest)),
+            (time, self.elapsed <= 400 && self.elapsed % 10 == 0),
+        ]
     }
 
     fn figures(&self) -> Vec<u32> {
@@ -121,17 +142,17 @@ impl Peaks {
 
 /// The protector by document 01.
 #[derive(Clone, Copy, Default)]
-struct State {
-    initial: f32,
-    threshold: u32,
+pub struct State {
+    pub initial: f32,
+    pub threshold: u32,
     count: u32,
-    headroom: f32,
+    pub headroom: f32,
     preliminary: Peaks,
     reliable: Peaks,
 }
 
 impl State {
-    fn new(initial: f32, threshold: u32) -> State {
+    pub fn new(initial: f32, threshold: u32) -> State {
         State {
             initial,
             threshold,
@@ -142,24 +163,39 @@ impl State {
         }
     }
 
-    fn passes(&self) -> bool {
-        is_headroom(self.initial)
-            && judge::is_threshold(self.threshold)
-            && self.count <= self.threshold
-            && is_headroom(self.headroom)
-            && self.preliminary.passes()
-            && self.reliable.passes()
+    /// "its settings and figures lie in their ranges; run counts 0 to T".
+    pub fn clauses(&self) -> Vec<Clause> {
+        let mut all = vec![
+            ("protector initial headroom", is_headroom(self.initial)),
+            ("protector threshold", judge::is_threshold(self.threshold)),
+            ("protector count", self.count <= self.threshold),
+            ("protector headroom", is_headroom(self.headroom)),
+        ];
+        all.extend(self.preliminary.clauses(PRELIMINARY));
+        all.extend(self.reliable.clauses(RELIABLE));
+        all
     }
 
-    fn figures(&self) -> Vec<u32> {
+    pub fn passes(&self) -> bool {
+        clauses::hold(&self.clauses())
+    }
+
+    pub fn figures(&self) -> Vec<u32> {
         let mut all = vec![bits(self.initial), self.threshold, self.count, bits(self.headroom)];
         all.extend(self.preliminary.figures());
         all.extend(self.reliable.figures());
         all
     }
 
+    /// The state, and what each call says that only looks at it: whether it passes, and the headroom.
+    pub fn shown(&self) -> Vec<u32> {
+        let mut all = self.figures();
+        all.extend(if self.passes() { [1, DONE, bits(self.headroom)] } else { [0, SETTING, 0] });
+        all
+    }
+
     /// The state with these figures.
-    fn read(figures: &[u32]) -> Option<State> {
+    pub fn read(figures: &[u32]) -> Option<State> {
         let (first, rest) = figures.split_at(figures.len().min(4));
         let (preliminary, rest) = Peaks::read(rest)?;
         match (first, Peaks::read(rest)?) {
@@ -176,7 +212,7 @@ impl State {
     }
 
     /// Answers whether a peak was pushed.
-    fn analyze(&mut self, p: f32, peak: f32, level: f32) -> bool {
+    pub fn analyze(&mut self, p: f32, peak: f32, level: f32) -> bool {
         let t = self.threshold;
         if judge::is_speech(p) {
             let pushed = self.preliminary.advance(peak, level);
@@ -220,30 +256,35 @@ const NAMES: [&str; 20] = [
     "time_since_push_ms",
 ];
 
-/// Whether a peak is the Rust's: on Arm the Rust has +0 where two zeros of unlike sign met.
-fn is_peak(ours: u32, theirs: u32) -> bool {
-    ours == theirs || (cfg!(target_arch = "aarch64") && ours == 0x8000_0000 && theirs == 0)
+/// Whether a peak is the Rust's: yes, no, or only because it is let through. On Arm the Rust has +0 where two zeros of
+/// unlike sign met.
+fn let_through(ours: u32, theirs: u32) -> Option<usize> {
+    if ours == theirs {
+        Some(0)
+    } else {
+        (cfg!(target_arch = "aarch64") && ours == MINUS_ZERO && theirs == 0).then_some(1)
+    }
 }
 
-/// Whether the Rust's protector has this state.
-fn is_shown(state: &State, other: &Published) -> bool {
+/// Whether the Rust's protector has this state, and then how many zeros of the other sign were let through.
+pub fn is_shown(state: &State, other: &Published) -> Option<usize> {
     let ours = state.figures();
-    let theirs = match judge::values(&format!("{:?}", other), &NAMES) {
-        Some(all) if all.len() == 22 => all,
-        _ => return false,
-    };
+    let theirs = judge::values(&format!("{:?}", other), &NAMES).filter(|all| all.len() == 22)?;
     let first = ours[..2] == theirs[..2] && ours[2] == theirs[2].min(state.threshold) && ours[3] == theirs[3];
+    let mut zeros = 0;
     // Here a state is headroom, place, size, storage, largest, elapsed; the Rust has the storage before
     // place and size.
-    let states = [4, 13].iter().all(|&at| {
+    for at in [4, 13] {
         let (one, two) = (&ours[at..at + 9], &theirs[at..at + 9]);
-        one[0] == two[0]
-            && one[1..3] == two[5..7]
-            && one[3..7].iter().zip(&two[1..5]).all(|(&x, &y)| is_peak(x, y))
-            && is_peak(one[7], two[7])
-            && one[8] == two[8]
-    });
-    first && states && other.headroom_db().to_bits() == state.headroom.to_bits()
+        if one[0] != two[0] || one[1..3] != two[5..7] || one[8] != two[8] {
+            return None;
+        }
+        for (&x, &y) in one[3..7].iter().zip(&two[1..5]) {
+            zeros += let_through(x, y)?;
+        }
+        zeros += let_through(one[7], two[7])?;
+    }
+    (first && other.headroom_db().to_bits() == state.headroom.to_bits()).then_some(zeros)
 }
 
 /// A protector by document 01, with the Rust's two beside it where they go along.
@@ -276,6 +317,8 @@ struct Desk {
     level: f32,
     /// Frames that publish, push, and whose largest peak meets a zero of the other sign.
     cases: [usize; 3],
+    /// How many zeros of the other sign were let through: one that stays is counted after each call.
+    zeros: usize,
 }
 
 impl Desk {
@@ -289,6 +332,7 @@ impl Desk {
             peak: -20.0,
             level: -40.0,
             cases: [0; 3],
+            zeros: 0,
         }
     }
 
@@ -296,13 +340,14 @@ impl Desk {
     fn put(&mut self, name: &str, figures: &[u32], reply: u32, to: Ask) -> bool {
         let state = &self.now.state;
         let mut all = vec![reply];
-        all.extend(state.figures());
+        all.extend(state.shown());
         if let Some((other, _)) = &self.now.rust {
-            if !is_shown(state, other) {
+            if let Some(zeros) = is_shown(state, other) {
+                self.zeros += zeros;
+            } else {
                 judge::object(&mut self.unlike, format!("after {} {:08x?}: {:08x?}, and {:?}", name, figures, all, other));
             }
         }
-        all.extend(if state.passes() { [1, DONE, bits(state.headroom)] } else { [0, SETTING, 0] });
         to(lines::question(name, figures), lines::answer(&all))
     }
 
@@ -360,6 +405,10 @@ impl Desk {
 impl Judge for Desk {
     fn tally(&mut self) -> &mut Tally {
         &mut self.tally
+    }
+
+    fn object(&mut self, why: Vec<String>) {
+        self.unlike.extend(why);
     }
 
     fn has_the_rust(&self) -> bool {
@@ -473,54 +522,16 @@ impl Judge for Desk {
             })
     }
 
-    /// The initial headroom and the published one, the threshold, the count, and each figure of both
-    /// states, outside of its range.
-    fn fail(&mut self, which: usize, to: Ask) -> Option<bool> {
-        let good = State::new(20.0, 3);
-        let mut all: Vec<State> = Vec::new();
-        let mut with = |change: &dyn Fn(&mut State)| {
-            let mut state = good;
-            change(&mut state);
-            all.push(state);
-        };
-        for t in judge::WRONG_THRESHOLDS {
-            with(&|s| s.threshold = t);
-        }
-        for count in [4, 200, u32::MAX] {
-            with(&|s| s.count = count);
-        }
-        for b in [0, 0x8000_0000, 0x42c8_0001, 0x7fc0_0000, 0x7f80_0000] {
-            let x = f32::from_bits(b);
-            with(&|s| s.initial = x);
-            with(&|s| s.headroom = x);
-            with(&|s| s.preliminary.headroom = x);
-            with(&|s| s.reliable.headroom = x);
-        }
-        for b in [0xc316_0001, 0x4248_0001, 0x7fc0_0000, 0xff80_0000] {
-            let x = f32::from_bits(b);
-            with(&|s| s.preliminary.largest = x);
-            with(&|s| s.reliable.largest = x);
-            for i in 0..4 {
-                with(&|s| s.preliminary.stored[i] = x);
-            }
-            with(&|s| s.reliable.stored[3] = x);
-        }
-        for time in [5, 401, 410, u32::MAX] {
-            with(&|s| s.preliminary.elapsed = time);
-            with(&|s| s.reliable.elapsed = time);
-        }
-        for place in [4, u32::MAX] {
-            with(&|s| s.preliminary.place = place);
-            with(&|s| s.reliable.place = place);
-        }
-        for size in [5, u32::MAX] {
-            with(&|s| s.preliminary.size = size);
-            with(&|s| s.reliable.size = size);
-        }
-        let state = *all.get(which)?;
-        if state.passes() {
-            judge::object(&mut self.unlike, format!("the state {} is to fail", which));
-        }
+    fn edges(&self) -> Edges {
+        edges()
+    }
+
+    fn amiss(&self) -> Vec<String> {
+        edges().amiss(&[], &clauses_of)
+    }
+
+    fn at_edge(&mut self, figures: &[u32], to: Ask) -> Option<bool> {
+        let state = State::read(figures)?;
         Some(self.set(state, to))
     }
 
@@ -528,6 +539,34 @@ impl Judge for Desk {
         let [speech, peak, level] = [1.0_f32, -20.0, -40.0].map(f32::to_bits);
         self.analyze(speech, peak, level, to) && self.analyze(0x7fc0_0000, peak, level, to) && self.reset(to)
     }
+}
+
+/// The states at the edges of the test.
+pub fn edges() -> Edges {
+    let mut all = Edges::of(State::new(20.0, 3).figures());
+    all.above_zero("protector initial headroom", 0, 100.0);
+    all.at("protector threshold", 1, &[1, 200], &judge::WRONG_THRESHOLDS);
+    for (threshold, count) in [(3, 0), (3, 3), (200, 200), (1, 1), (3, 4), (200, 201), (1, 2), (3, u32::MAX)] {
+        all.with("protector count", count <= threshold, &[(1, threshold), (2, count)]);
+    }
+    all.above_zero("protector headroom", 3, 100.0);
+    for (from, [headroom, place, size, storage, largest, time]) in [(4, PRELIMINARY), (13, RELIABLE)] {
+        all.above_zero(headroom, from, 100.0);
+        all.at(place, from + 1, &[0, 3], &[4, 5, u32::MAX]);
+        all.at(size, from + 2, &[0, 4], &[5, 6, u32::MAX]);
+        for slot in from + 3..from + 7 {
+            all.between(storage, slot, -150.0, 50.0);
+            all.at(storage, slot, &[MINUS_ZERO], &[]);
+        }
+        all.between(largest, from + 7, -150.0, 50.0);
+        all.at(largest, from + 7, &[MINUS_ZERO], &[]);
+        all.at(time, from + 8, &[0, 10, 390, 400], &[5, 395, 399, 401, 405, 410, u32::MAX]);
+    }
+    all
+}
+
+fn clauses_of(figures: &[u32]) -> Option<Vec<Clause>> {
+    Some(State::read(figures)?.clauses())
 }
 
 /// Two zeros of unlike sign, in both orders, and each pushed.
@@ -577,7 +616,7 @@ impl Part for Protectors {
 
     fn ask(&mut self, to: Ask) {
         let frames = self.length.of(60_000, 1_000_000, 200_000);
-        let _ = (self.length == Length::Round || zeros(&mut self.desk, to))
+        let _ = (matches!(self.length, Length::Round | Length::States) || zeros(&mut self.desk, to))
             && judge::play(&mut self.desk, self.seed, self.length, frames, to);
     }
 
@@ -590,6 +629,10 @@ impl Part for Protectors {
             ("protector.reset", []) => desk.reset(to),
             _ => return None,
         })
+    }
+
+    fn clauses(&self) -> Vec<&'static str> {
+        edges().names(&[], &clauses_of)
     }
 
     fn kinds(&self) -> Vec<(&'static str, usize)> {
@@ -605,6 +648,7 @@ impl Part for Protectors {
         vec![
             self.desk.tally.note(),
             format!("of the frames {} publish, {} push a peak, and in {} two zeros of unlike sign meet", published, pushed, zeros),
+            format!("zeros of unlike sign that the Rust has otherwise, and that were let through: {}", self.desk.zeros),
             self.desk.departure.line("the headroom in dB"),
         ]
     }

@@ -7,6 +7,7 @@
 //! ring that the Rust cannot be brought to by its own calls is held to document 01 alone; those are
 //! counted apart.
 
+use crate::clauses::{self, Clause, Edges, MINUS_ZERO, NO_NUMBERS};
 use crate::drive::{Ask, Length, Part};
 use crate::lines::{self, bits, DONE, FIGURE, SETTING};
 use crate::random::Random;
@@ -35,14 +36,34 @@ const EMPTY: Ring = Ring {
 
 impl Ring {
     /// "ring place 0 to 3, size 0 to 4, stored items finite".
+    fn clauses(&self) -> Vec<Clause> {
+        vec![
+            ("ring place", self.next < CAPACITY),
+            ("ring size", self.size <= CAPACITY),
+            ("ring storage", self.buffer.iter().all(|x| x.is_finite())),
+        ]
+    }
+
     fn passes(&self) -> bool {
-        self.next < CAPACITY && self.size <= CAPACITY && self.buffer.iter().all(|x| x.is_finite())
+        clauses::hold(&self.clauses())
+    }
+
+    /// The ring with these figures.
+    fn read(figures: &[u32]) -> Option<Ring> {
+        match *figures {
+            [place, size, a, b, c, d] => Some(Ring {
+                buffer: [a, b, c, d].map(f32::from_bits),
+                next: place as usize,
+                size: size as usize,
+            }),
+            _ => None,
+        }
     }
 
     /// The items, oldest first.
     fn items(&self) -> Vec<f32> {
         let first = if self.size == CAPACITY { self.next } else { 0 };
-        (0..self.size).map(|i| self.buffer[(first + i) % CAPACITY]).collect()
+        (0..self.size.min(CAPACITY)).map(|i| self.buffer[(first + i) % CAPACITY]).collect()
     }
 
     fn figures(&self) -> Vec<u32> {
@@ -145,15 +166,16 @@ impl Desk {
     }
 
     fn set(&mut self, place: u32, size: u32, stored: [u32; CAPACITY], to: Ask) -> bool {
-        self.ring = Ring {
-            buffer: stored.map(f32::from_bits),
-            next: place as usize,
-            size: size as usize,
-        };
-        self.published = published(&self.ring);
         let mut figures = vec![place, size];
         figures.extend(stored);
-        self.put("ring.set", &figures, DONE, to)
+        self.hand_in(&figures, to)
+    }
+
+    /// The ring with these figures.
+    fn hand_in(&mut self, figures: &[u32], to: Ask) -> bool {
+        self.ring = Ring::read(figures).unwrap_or(EMPTY);
+        self.published = published(&self.ring);
+        self.put("ring.set", figures, DONE, to)
     }
 
     /// "A pushed peak is any finite number"; 4 comes before 2.
@@ -345,7 +367,32 @@ fn sequence(desk: &mut Desk, source: &mut Random, calls: usize, to: Ask) -> bool
     going
 }
 
-/// The questions of the fixed list: document 01's examples, and a sequence.
+/// The rings at the edges of the test.
+fn edges() -> Edges {
+    let [a, b, c, d] = [1.0_f32, -2.0, 3.0, -4.0].map(f32::to_bits);
+    let mut all = Edges::of(vec![1, 3, a, b, c, d]);
+    all.at("ring place", 0, &[0, 3], &[4, 5, 1 << 31, u32::MAX]);
+    all.at("ring size", 1, &[0, 4], &[5, 6, 1 << 31, u32::MAX]);
+    for slot in 2..2 + CAPACITY {
+        all.at("ring storage", slot, &[0x7f7f_ffff, 0xff7f_ffff, MINUS_ZERO], &NO_NUMBERS);
+    }
+    all
+}
+
+fn clauses_of(figures: &[u32]) -> Option<Vec<Clause>> {
+    Some(Ring::read(figures)?.clauses())
+}
+
+/// Each ring at an edge of the test, or a few of them, with every call.
+fn at_edges(desk: &mut Desk, few: bool, to: Ask) -> bool {
+    let edges = edges();
+    desk.unlike.extend(edges.amiss(&[], &clauses_of));
+    edges.some(few).iter().all(|edge| {
+        desk.hand_in(&edge.figures, to) && desk.push(0x3f80_0000, to) && desk.push(0x7fc0_0000, to) && desk.reset(to)
+    })
+}
+
+/// The questions of the fixed list: document 01's examples, rings at the edges of the test, and a sequence.
 pub fn list(seed: u64, to: Ask) -> Vec<String> {
     let mut desk = Desk::new();
     desk.fresh(to);
@@ -355,6 +402,7 @@ pub fn list(seed: u64, to: Ask) -> Vec<String> {
     // A NaN in a slot that holds no item now, which one push would make an item.
     desk.set(2, 1, [0, 0x7fc0_0000, 0, 0], to);
     desk.push(0, to);
+    at_edges(&mut desk, true, to);
     sequence(&mut desk, &mut Random::new(seed), 600, to);
     desk.unlike
 }
@@ -362,7 +410,7 @@ pub fn list(seed: u64, to: Ask) -> Vec<String> {
 /// Whole sequences of calls.
 pub struct Rings {
     seed: u64,
-    calls: usize,
+    length: Length,
     desk: Desk,
 }
 
@@ -370,7 +418,7 @@ impl Rings {
     pub fn new(seed: u64, length: Length) -> Rings {
         Rings {
             seed,
-            calls: length.of(20_000, 1_000_000, 100_000),
+            length,
             desk: Desk::new(),
         }
     }
@@ -382,7 +430,14 @@ impl Part for Rings {
     }
 
     fn ask(&mut self, to: Ask) {
-        sequence(&mut self.desk, &mut Random::new(self.seed), self.calls, to);
+        let calls = self.length.of(20_000, 1_000_000, 100_000);
+        let _ = (self.length == Length::Round || at_edges(&mut self.desk, false, to))
+            && self.length != Length::States
+            && sequence(&mut self.desk, &mut Random::new(self.seed), calls, to);
+    }
+
+    fn clauses(&self) -> Vec<&'static str> {
+        edges().names(&[], &clauses_of)
     }
 
     fn again(&mut self, name: &str, figures: &[u32], to: Ask) -> Option<bool> {

@@ -1,6 +1,7 @@
 //! Frames of sound, and how a part that takes frames is asked about whole sequences of them: what the
 //! level estimator, the applier and the limiter have in common.
 
+use crate::clauses::Edges;
 use crate::drive::{Ask, Length};
 use crate::lines::{bits, DONE, SAMPLE, SETTING, SHAPE};
 use crate::random::Random;
@@ -155,18 +156,24 @@ pub trait Player {
     fn play(&mut self, frame: &Frame, to: Ask) -> bool;
     /// A call without a frame.
     fn other(&mut self, source: &mut Random, to: Ask) -> bool;
-    /// Hands in one of the states that fail, for channels of 40 samples where that is not what fails;
-    /// none where there are no more.
-    fn fail(&mut self, which: usize, to: Ask) -> Option<bool>;
+    /// Notes what is amiss with the comparison itself.
+    fn object(&mut self, why: Vec<String>);
+    /// The states at the edges of the test, and what is amiss with them.
+    fn edges(&self) -> Edges;
+    fn amiss(&self) -> Vec<String>;
+    /// Hands in the state with these figures; none where there is no such state.
+    fn at_edge(&mut self, figures: &[u32], to: Ask) -> Option<bool>;
     /// Each call without a frame that a failing state refuses.
     fn refuse(&mut self, to: Ask) -> bool;
 }
 
-/// Each state that fails, with a good frame, one with a NaN, one of a wrong length, and the calls
-/// without a frame: 1 comes before 4, and 4 before 2 and 3.
-fn play_failing(player: &mut dyn Player, source: &mut Random, to: Ask) -> bool {
-    let mut which = 0;
-    while let Some(going) = player.fail(which, to) {
+/// Each state at an edge of the test, inside and outside, or a few of them, with a good frame, one with a NaN, one of a wrong length,
+/// and the calls without a frame: 1 comes before 4, and 4 before 2 and 3.
+fn at_edges(player: &mut dyn Player, few: bool, source: &mut Random, to: Ask) -> bool {
+    let amiss = player.amiss();
+    player.object(amiss);
+    for edge in player.edges().some(few) {
+        let going = player.at_edge(&edge.figures, to).unwrap_or(true);
         let samples = player.set_to().filter(|&n| is_samples(n)).unwrap_or(40);
         let good = frame(2, 1, samples, player.bound(), source);
         let mut wrong = good.clone();
@@ -177,7 +184,6 @@ fn play_failing(player: &mut dyn Player, source: &mut Random, to: Ask) -> bool {
         if !(going && played && player.refuse(to)) {
             return false;
         }
-        which += 1;
     }
     true
 }
@@ -395,29 +401,30 @@ pub fn sequence(player: &mut dyn Player, source: &mut Random, samples: usize, to
     going
 }
 
-/// What a run asks: one loud sample at each place, all damaged calls, all states that fail, and a
+/// What a run asks: one loud sample at each place, all damaged calls, all states at the edges of the test, and a
 /// sequence. A round has the sequence alone.
 pub fn run(player: &mut dyn Player, seed: u64, length: Length, samples: usize, to: Ask) -> bool {
     let source = &mut Random::new(seed);
     let every: Vec<u32> = (0..20).collect();
     let shapes: &[(u32, &[u32])] = match length {
         Length::Round => return sequence(player, source, samples, to),
+        Length::States => return at_edges(player, false, source, to),
         Length::Long => &[(40, &every), (60, &every), (160, &every), (480, &every)],
         Length::Short => &[(40, &every), (480, &[0, 19])],
     };
     shapes.iter().all(|&(n, parts)| each_place(player, n, parts, source, to))
         && [1, 2, 8].iter().all(|&channels| play_damaged(player, channels, 1, source, to))
-        && play_failing(player, source, to)
+        && at_edges(player, false, source, to)
         && sequence(player, source, samples, to)
 }
 
-/// The questions of the fixed list: each damaged form of a frame, each state that fails, frames of each
+/// The questions of the fixed list: each damaged form of a frame, states at the edges of the test, frames of each
 /// kind of 40 samples, with other calls between them, and a few of 480.
 pub fn list(player: &mut dyn Player, seed: u64, to: Ask) {
     let source = &mut Random::new(seed);
     player.renew(40, source, to);
     play_damaged(player, 1, 1, source, to);
-    play_failing(player, source, to);
+    at_edges(player, true, source, to);
     player.renew(40, source, to);
     for kind in 0..KINDS.len() {
         for channels in [1, 2] {

@@ -7,12 +7,24 @@
 //! which goes on in the Rust too; any other is held to document 01 alone, and those frames are counted
 //! apart.
 
+use crate::clauses::{self, Clause, Edges, MINUS_ZERO, NAN};
 use crate::drive::{Ask, Length, Part};
 use crate::judge::{self, Departure, Judge, Settings, Tally, PROBABILITY, RMS};
 use crate::lines::{self, bits, DONE, FIGURE, SETTING};
 use crate::random::Random;
 use sonora_as_is::speech_level_estimator as as_is;
 use sonora_ruled::speech_level_estimator as ruled;
+
+/// The names of the clauses about the settings, and about each average.
+const SETTINGS: [&str; 5] = [
+    "speech headroom setting",
+    "speech largest gain",
+    "speech initial gain",
+    "speech change per second",
+    "speech output noise",
+];
+const PRELIMINARY: [&str; 3] = ["speech preliminary time", "speech preliminary weight", "speech preliminary sum"];
+const RELIABLE: [&str; 3] = ["speech reliable time", "speech reliable weight", "speech reliable sum"];
 
 #[derive(Clone, Copy, Default)]
 struct Average {
@@ -24,12 +36,14 @@ struct Average {
 impl Average {
     /// "times 0 to 400 in tens; weight from 1 to 450 less the time left; the sum's magnitude at most
     /// exactly 151 times the weight".
-    fn passes(&self) -> bool {
-        self.left <= 400
-            && self.left % 10 == 0
-            && 1.0 <= self.weight
-            && self.weight <= (450 - self.left) as f32
-            && (self.sum as f64).abs() <= 151.0 * self.weight as f64
+    fn clauses(&self, names: [&'static str; 3]) -> [Clause; 3] {
+        let [time, weight, sum] = names;
+        let most = (450 - self.left as i64) as f32;
+        [
+            (time, self.left <= 400 && self.left % 10 == 0),
+            (weight, 1.0 <= self.weight && self.weight <= most),
+            (sum, (self.sum as f64).abs() <= 151.0 * self.weight as f64),
+        ]
     }
 
     fn figures(&self) -> [u32; 3] {
@@ -39,24 +53,24 @@ impl Average {
 
 /// The estimator by document 01.
 #[derive(Clone, Copy, Default)]
-struct State {
-    settings: Settings,
-    threshold: u32,
+pub struct State {
+    pub settings: Settings,
+    pub threshold: u32,
     initial: f32,
     preliminary: Average,
     reliable: Average,
-    level: f32,
-    confident: bool,
-    count: u32,
+    pub level: f32,
+    pub confident: bool,
+    pub count: u32,
 }
 
 /// "Starts at the clamped -20 - initial gain - headroom".
-fn starting(settings: &Settings) -> f32 {
+pub fn starting(settings: &Settings) -> f32 {
     judge::clamp(-20.0 - settings.at(2) - settings.at(0), -90.0, 30.0)
 }
 
 impl State {
-    fn new(settings: Settings, threshold: u32) -> State {
+    pub fn new(settings: Settings, threshold: u32) -> State {
         let initial = starting(&settings);
         let average = Average {
             left: 400,
@@ -75,18 +89,26 @@ impl State {
         }
     }
 
-    fn passes(&self) -> bool {
-        self.settings.accepted()
-            && judge::is_threshold(self.threshold)
-            && self.initial == starting(&self.settings)
-            && -90.0 <= self.level
-            && self.level <= 30.0
-            && self.count <= self.threshold
-            && self.preliminary.passes()
-            && self.reliable.passes()
+    /// "its settings and figures lie in their ranges; published level -90 to 30; run counts 0 to T; starting level
+    /// as its rule gives it".
+    pub fn clauses(&self) -> Vec<Clause> {
+        let mut all = self.settings.clauses(SETTINGS);
+        all.extend([
+            ("speech threshold", judge::is_threshold(self.threshold)),
+            ("speech starting level", self.initial == starting(&self.settings)),
+            ("speech level", -90.0 <= self.level && self.level <= 30.0),
+            ("speech count", self.count <= self.threshold),
+        ]);
+        all.extend(self.preliminary.clauses(PRELIMINARY));
+        all.extend(self.reliable.clauses(RELIABLE));
+        all
     }
 
-    fn figures(&self) -> Vec<u32> {
+    pub fn passes(&self) -> bool {
+        clauses::hold(&self.clauses())
+    }
+
+    pub fn figures(&self) -> Vec<u32> {
         let mut all = self.settings.figures().to_vec();
         all.extend([self.threshold, bits(self.initial)]);
         all.extend(self.preliminary.figures());
@@ -95,8 +117,20 @@ impl State {
         all
     }
 
+    /// The state, and what each call says that only looks at it: whether it passes, the level, and whether it is
+    /// trusted.
+    pub fn shown(&self) -> Vec<u32> {
+        let mut all = self.figures();
+        all.extend(if self.passes() {
+            [1, DONE, bits(self.level), DONE, self.confident as u32]
+        } else {
+            [0, SETTING, 0, SETTING, 0]
+        });
+        all
+    }
+
     /// The state with these figures.
-    fn read(figures: &[u32]) -> Option<State> {
+    pub fn read(figures: &[u32]) -> Option<State> {
         let (settings, rest) = Settings::read(figures)?;
         let average = |left: u32, sum: u32, weight: u32| Average {
             left,
@@ -118,7 +152,7 @@ impl State {
         }
     }
 
-    fn update(&mut self, rms: f32, p: f32) {
+    pub fn update(&mut self, rms: f32, p: f32) {
         let t = self.threshold;
         if judge::is_speech(p) {
             let one = &mut self.preliminary;
@@ -171,7 +205,7 @@ const OVER: u32 = 0x4317_0004;
 const UNDER: u32 = 0x4317_0003;
 
 /// Whether the Rust's estimator has this state: all of it but for the settings.
-fn is_shown(state: &State, other: &ruled::SpeechLevelEstimator) -> bool {
+pub fn is_shown(state: &State, other: &ruled::SpeechLevelEstimator) -> bool {
     let mut ours = state.figures().split_off(6);
     ours.insert(1, state.threshold);
     match judge::values(&format!("{:?}", other), &NAMES) {
@@ -252,17 +286,12 @@ impl Desk {
     fn put(&mut self, name: &str, figures: &[u32], reply: u32, to: Ask) -> bool {
         let state = &self.now.state;
         let mut all = vec![reply];
-        all.extend(state.figures());
+        all.extend(state.shown());
         if let Some((other, _)) = &self.now.rust {
             if !is_shown(state, other) {
                 judge::object(&mut self.unlike, format!("after {} {:08x?}: {:08x?}, and {:?}", name, figures, all, other));
             }
         }
-        all.extend(if state.passes() {
-            [1, DONE, bits(state.level), DONE, state.confident as u32]
-        } else {
-            [0, SETTING, 0, SETTING, 0]
-        });
         to(lines::question(name, figures), lines::answer(&all))
     }
 
@@ -319,6 +348,10 @@ impl Desk {
 impl Judge for Desk {
     fn tally(&mut self) -> &mut Tally {
         &mut self.tally
+    }
+
+    fn object(&mut self, why: Vec<String>) {
+        self.unlike.extend(why);
     }
 
     fn has_the_rust(&self) -> bool {
@@ -421,63 +454,89 @@ impl Judge for Desk {
             })
     }
 
-    /// Each setting, the threshold, the starting level, the published one, the count, and each figure of
-    /// both averages, outside of its range.
-    fn fail(&mut self, which: usize, to: Ask) -> Option<bool> {
-        let good = State::new(Settings::USUAL, 3);
-        let mut all: Vec<State> = Vec::new();
-        let mut with = |change: &dyn Fn(&mut State)| {
-            let mut state = good;
-            change(&mut state);
-            all.push(state);
-        };
-        for settings in Settings::wrong() {
-            with(&|s| s.settings = settings);
-        }
-        for t in judge::WRONG_THRESHOLDS {
-            with(&|s| s.threshold = t);
-        }
-        for b in [0xc220_0001, 0xc21f_ffff, 0x7fc0_0000, 0] {
-            with(&|s| s.initial = f32::from_bits(b));
-        }
-        for b in [0xc2b4_0001, 0x41f0_0001, 0x7fc0_0000, 0x7f80_0000, 0xff80_0000] {
-            with(&|s| s.level = f32::from_bits(b));
-        }
-        for count in [4, 200, u32::MAX] {
-            with(&|s| s.count = count);
-        }
-        let averages = [
-            (401, 0.0, 1.0),
-            (410, 0.0, 1.0),
-            (5, 0.0, 1.0),
-            (u32::MAX, 0.0, 1.0),
-            (400, 0.0, 0.99999994),
-            (400, 0.0, 50.000004),
-            (0, 0.0, 450.00003),
-            (390, 0.0, f32::NAN),
-            (390, 0.0, f32::INFINITY),
-            (400, 151.00002, 1.0),
-            (400, -151.00002, 1.0),
-            // 151 times this weight is no f32: the sum is that product rounded, and so above it.
-            (0, f32::from_bits(OVER), f32::from_bits(WEIGHT)),
-            (0, -f32::from_bits(OVER), f32::from_bits(WEIGHT)),
-            (400, f32::NAN, 1.0),
-            (400, f32::NEG_INFINITY, 1.0),
-        ];
-        for (left, sum, weight) in averages {
-            with(&|s| s.preliminary = Average { left, sum, weight });
-            with(&|s| s.reliable = Average { left, sum, weight });
-        }
-        let state = *all.get(which)?;
-        if state.passes() {
-            judge::object(&mut self.unlike, format!("the state {} is to fail", which));
-        }
+    fn edges(&self) -> Edges {
+        edges()
+    }
+
+    fn amiss(&self) -> Vec<String> {
+        edges().amiss(&[], &clauses_of)
+    }
+
+    fn at_edge(&mut self, figures: &[u32], to: Ask) -> Option<bool> {
+        let state = State::read(figures)?;
         Some(self.set(state, to))
     }
 
     fn refuse(&mut self, _: &mut Random, to: Ask) -> bool {
         self.update((-30.0_f32).to_bits(), 1.0_f32.to_bits(), to) && self.update(0x7fc0_0000, 0, to) && self.reset(to)
     }
+}
+
+/// Where the figures stand in a state.
+const THRESHOLD: usize = 5;
+const INITIAL: usize = 6;
+const LEVEL: usize = 13;
+const COUNT: usize = 15;
+
+/// The states at the edges of the test.
+pub fn edges() -> Edges {
+    let mut all = Edges::of(State::new(Settings::USUAL, 3).figures());
+    Settings::add_edges(&mut all, 0, SETTINGS, &|settings| (INITIAL, bits(starting(settings))));
+    all.at("speech threshold", THRESHOLD, &[1, 200], &judge::WRONG_THRESHOLDS);
+    let usual = starting(&Settings::USUAL);
+    all.at("speech starting level", INITIAL, &[usual.to_bits()], &[clauses::below(usual), clauses::above(usual), NAN, 0]);
+    all.between("speech level", LEVEL, -90.0, 30.0);
+    all.at("speech level", LEVEL, &[0, MINUS_ZERO], &[]);
+    for (threshold, count) in [(3, 0), (3, 3), (200, 200), (1, 1), (3, 4), (200, 201), (1, 2), (3, u32::MAX)] {
+        all.with("speech count", count <= threshold, &[(THRESHOLD, threshold), (COUNT, count)]);
+    }
+    for (place, [time, weight, sum]) in [(7, PRELIMINARY), (10, RELIABLE)] {
+        let mut with = |name, inside, left: u32, x: f32, w: f32| {
+            all.with(name, inside, &[(place, left), (place + 1, x.to_bits()), (place + 2, w.to_bits())]);
+        };
+        for left in [0, 10, 390, 400, 5, 395, 399, 401, 405, 410, u32::MAX] {
+            with(time, left <= 400 && left % 10 == 0, left, 0.0, 1.0);
+        }
+        for (inside, left, w) in [
+            (true, 400, 1.0),
+            (true, 400, 50.0),
+            (true, 0, 450.0),
+            (true, 200, 250.0),
+            (false, 400, 0.99999994),
+            (false, 400, 50.000004),
+            (false, 0, 450.00003),
+            (false, 200, 250.00002),
+            (false, 400, 0.0),
+            (false, 400, -1.0),
+            (false, 390, f32::NAN),
+            (false, 390, f32::INFINITY),
+        ] {
+            with(weight, inside, left, 0.0, w);
+        }
+        // 151 times this weight is no f32: the one above is that product rounded, and fails.
+        let (under, over, odd) = (f32::from_bits(UNDER), f32::from_bits(OVER), f32::from_bits(WEIGHT));
+        for (inside, x, w) in [
+            (true, 151.0, 1.0),
+            (true, -151.0, 1.0),
+            (true, -0.0, 1.0),
+            (true, under, odd),
+            (true, -under, odd),
+            (false, 151.00002, 1.0),
+            (false, -151.00002, 1.0),
+            (false, over, odd),
+            (false, -over, odd),
+            (false, f32::NAN, 1.0),
+            (false, f32::INFINITY, 1.0),
+            (false, f32::NEG_INFINITY, 1.0),
+        ] {
+            with(sum, inside, 400, x, w);
+        }
+    }
+    all
+}
+
+fn clauses_of(figures: &[u32]) -> Option<Vec<Clause>> {
+    Some(State::read(figures)?.clauses())
 }
 
 /// The questions of the fixed list.
@@ -528,6 +587,10 @@ impl Part for Speeches {
             ("speech.reset", []) => desk.reset(to),
             _ => return None,
         })
+    }
+
+    fn clauses(&self) -> Vec<&'static str> {
+        edges().names(&[], &clauses_of)
     }
 
     fn kinds(&self) -> Vec<(&'static str, usize)> {

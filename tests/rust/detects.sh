@@ -122,8 +122,41 @@ wrong_reader "publishing one frame too early" strip 'run == head.threshold' 'spe
 wrong_reader "the length judged before the version" strip 'if bytes\[2\] != 1 {' 'if bytes[2] != 1 \&\& two(\&bytes, 0) == 24 {'
 wrong_reader "one byte taken for the end" strip 'if bytes.is_empty() {' 'if bytes.len() < 2 {'
 wrong_reader "a threshold of 201 taken" judge '(1..=200).contains' '(1..=201).contains'
-wrong_reader "a negative zero taken in a setting" judge '&& !self.0.contains(&0x8000_0000)' ''
+wrong_reader "a negative zero taken in a setting" judge ' && self.0\[i\] != 0x8000_0000' ''
 wrong_reader "an rms of -150 taken" chain '-150.0 < rms' '-150.0 <= rms'
+
+# The test of a handed-in state: of each clause of each part's test there are questions that a program without that clause answers
+# wrongly. The wrong program is the oracle's own answers, by a test without the clause; and the sound program is asked the same.
+for part in ring curve estimator applier limiter speech protector controller chain; do
+    same "$part: the comparison of its test finds nothing where nothing is left out" 0 \
+        "$(target/oracle/oracle compare --only "$part" --states -- tests/run-program replay >/dev/null 2>&1; echo $?)"
+    target/oracle/oracle clauses "$part" >"$room/clauses"
+    while read -r clause; do
+        target/oracle/oracle compare --only "$part" --states -- target/oracle/oracle replay --without "$clause" >"$room/told" 2>&1 </dev/null
+        same "$part: it finds a test without its clause '$clause'" 1 $?
+    done <"$room/clauses"
+done
+same "the clauses are those of document 01: so many for each part" "3 2 3 4 6 15 16 15 52" \
+    "$(for part in ring curve estimator applier limiter speech protector controller chain; do target/oracle/oracle clauses "$part" | wc -l; done | paste -sd' ')"
+# The short comparison, which the gate runs, asks these questions too.
+same "speech: the short comparison finds a test without a clause" 1 \
+    "$(target/oracle/oracle compare --only speech --short -- target/oracle/oracle replay --without 'speech reliable sum' >/dev/null 2>&1; echo $?)"
+same "chain: the short comparison finds parts that are not alike in a setting" 1 \
+    "$(target/oracle/oracle compare --only chain --short -- target/oracle/oracle replay --without 'chain output noise' >/dev/null 2>&1; echo $?)"
+# A refused frame in the middle of a service, in the chain's answers: the first that is refused after the 5000th line, which lies
+# among the services. It must not be told as accepted, it must give its samples back, and a program that counts it is found.
+refused() { echo "awk 'NR > 5000 && /^0000000[123] 00000001/ && !done { done = 1; $1 } { print }'"; } # CHANGE
+same "chain: it finds a refused frame in a service that is said to be accepted" 1 \
+    "$(through chain "$(refused 'sub(/^0000000./, "00000000")')")"
+same "chain: it finds a refused frame in a service whose samples are altered" 1 \
+    "$(through chain "$(refused 'sub(/.$/, /7$/ ? "8" : "7")')")"
+if wrong_oracle chain 'let mut samples = frame.untouched();' \
+    'let mut samples = frame.untouched(); if reply == FIGURE { self.state.speech.count = 0; }'; then
+    target/oracle/oracle compare --only chain --short -- "$room/reader/oracle" replay >/dev/null 2>&1
+    same "chain: it finds that a refused frame ends a run" 1 $?
+else
+    echo "not ok chain: it finds that a refused frame ends a run"
+fi
 
 # At scale: a wrong program is found, the questions are shrunk to a few, and what is kept shows the difference
 # with that program and none with the sound one.

@@ -9,31 +9,52 @@
 // frame ended with, the one to end the next frame with, the samples of a channel and 1 over them);
 // whether it passes; and get_gain_factor (a reply and the factor).
 
-use crate::desk::ASKED;
-use crate::desk::Reply;
+use crate::estimator;
 use crate::figures;
+use crate::figures::ASKED;
 use crate::figures::Desk;
 use crate::figures::Given;
+use crate::figures::Reply;
+use crate::lines;
+use crate::lines::Asked;
+use crate::lines::Wanted;
 use crate::numbers;
 use gain_applier::Applier;
 use gain_applier::Next;
 use units::replies::DONE;
 
-// Where the figures stand on the desk.
-pub const FROM: usize = 114;
+// The part's number, how many figures its state has and how many are shown of it, and where these stand and
+// end on the desk.
+pub const PART: u32 = estimator::PART + 1;
 
-const SHOWN: usize = 8;
+pub const STATE: usize = 5;
 
-// The words, by their numbers in the list of src/desk.rt.
-pub const FIRST: u32 = 15;
+const SHOWN: usize = STATE + 3;
 
-const NEW: u32 = 15;
+pub const FROM: usize = estimator::END;
 
-const SET: u32 = 16;
+pub const END: usize = FROM + SHOWN;
 
-const FACTOR: u32 = 17;
+// The names, each by its letter in the table below.
+const NEW: u8 = b'n';
 
-pub const APPLY: u32 = 18;
+const SET: u8 = b's';
+
+const FACTOR: u8 = b'f';
+
+const APPLY: u8 = b'a';
+
+// What a line asks of this part, and what was found before where it asks nothing of it.
+pub(crate) fn wanted(line: &[u8], asked: Asked, found: Wanted) -> Wanted {
+    lines::seek(
+        line,
+        asked,
+        found,
+        PART,
+        STATE,
+        b"n2=applier.new s*=applier.set f1=applier.factor a2+applier.apply ",
+    )
+}
 
 // The applier whose figures stand at a place.
 pub(crate) fn read(all: &Desk, from: usize) -> Applier {
@@ -47,7 +68,7 @@ pub(crate) fn read(all: &Desk, from: usize) -> Applier {
 }
 
 // The figures that are shown of an applier.
-fn shown(applier: Applier) -> [u32; 8] {
+fn shown(applier: Applier) -> [u32; SHOWN] {
     let told = applier.get_gain_factor();
     [
         numbers::flag(applier.clip),
@@ -68,7 +89,7 @@ fn leave(desk: &mut Desk, applier: Applier) {
 }
 
 // The reply to a question about an applier, and the applier after it.
-fn next(word: u32, applier: Applier, given: Given, frame: &mut [f32]) -> Next {
+fn next(word: u8, applier: Applier, given: Given, frame: &mut [f32]) -> Next {
     if word == NEW {
         Applier::new(given.first != 0, bits::float_of(given.second))
     } else if word == FACTOR {
@@ -88,7 +109,7 @@ fn next(word: u32, applier: Applier, given: Given, frame: &mut [f32]) -> Next {
 }
 
 // Answers the question that lies on the desk.
-pub(crate) fn answer(word: u32, given: Given, desk: &mut Desk, frame: &mut [f32]) -> Reply {
+pub(crate) fn answer(word: u8, given: Given, desk: &mut Desk, frame: &mut [f32]) -> Reply {
     let before = read(desk, numbers::pick(word == SET, ASKED, FROM));
     let a = next(word, before, given, frame);
     leave(desk, a.applier);

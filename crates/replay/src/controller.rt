@@ -11,12 +11,16 @@
 // whether it passes.
 
 use crate::applier;
-use crate::desk::ASKED;
-use crate::desk::Reply;
 use crate::figures;
+use crate::figures::ASKED;
 use crate::figures::Desk;
 use crate::figures::Given;
+use crate::figures::Reply;
+use crate::lines;
+use crate::lines::Asked;
+use crate::lines::Wanted;
 use crate::numbers;
+use crate::protector;
 use crate::speech;
 use adaptive_digital_gain_controller::Controller;
 use adaptive_digital_gain_controller::Info;
@@ -26,20 +30,42 @@ use units::kinds::Db;
 use units::kinds::Dbfs;
 use units::replies::DONE;
 
-// Where the figures stand on the desk.
-pub const FROM: usize = 187;
+// The part's number, how many figures its state has and how many are shown of it, and where these stand and
+// end on the desk.
+pub const PART: u32 = protector::PART + 1;
 
-const SHOWN: usize = 15;
+pub const STATE: usize = REST + 4;
+
+const SHOWN: usize = STATE + 1;
+
+pub const FROM: usize = protector::END;
+
+pub const END: usize = FROM + SHOWN;
+
+// Where the settings stand behind the applier, and what comes behind them.
+const SETTINGS: usize = applier::STATE;
+
+const REST: usize = SETTINGS + speech::SETTINGS;
 
 // Where the question has what is known of the frame.
 const KNOWN: usize = 2;
 
-// The words, by their numbers in the list of src/desk.rt.
-pub const FIRST: u32 = 32;
+// The names, each by its letter in the table below.
+const NEW: u8 = b'n';
 
-const NEW: u32 = 32;
+const PROCESS: u8 = b'p';
 
-pub const PROCESS: u32 = 34;
+// What a line asks of this part, and what was found before where it asks nothing of it.
+pub(crate) fn wanted(line: &[u8], asked: Asked, found: Wanted) -> Wanted {
+    lines::seek(
+        line,
+        asked,
+        found,
+        PART,
+        STATE,
+        b"n6=controller.new s*=controller.set p8+controller.process ",
+    )
+}
 
 // What is known of a frame, whose figures stand at a place.
 fn info(all: &Desk, from: usize) -> Info {
@@ -55,18 +81,19 @@ fn info(all: &Desk, from: usize) -> Info {
 
 // The controller whose figures stand at a place.
 pub(crate) fn read(all: &Desk, from: usize) -> Controller {
+    let rest = wrapping_add_usize(from, REST);
     Controller {
         applier: applier::read(all, from),
-        settings: speech::settings(all, wrapping_add_usize(from, 5)),
-        threshold: figures::word(all, from, 10),
-        change: figures::float(all, from, 11),
-        waiting: figures::word(all, from, 12),
-        gain: figures::float(all, from, 13),
+        settings: speech::settings(all, wrapping_add_usize(from, SETTINGS)),
+        threshold: figures::word(all, rest, 0),
+        change: figures::float(all, rest, 1),
+        waiting: figures::word(all, rest, 2),
+        gain: figures::float(all, rest, 3),
     }
 }
 
 // The figures that are shown of a controller.
-fn shown(controller: Controller) -> [u32; 15] {
+fn shown(controller: Controller) -> [u32; SHOWN] {
     [
         numbers::flag(controller.applier.clip),
         bits::bits_of(controller.applier.last),
@@ -93,9 +120,12 @@ pub(crate) fn leave(desk: &mut Desk, controller: Controller) {
 }
 
 // The reply to the question that lies on the desk, and the controller after it.
-fn next(word: u32, given: Given, desk: &Desk, frame: &mut [f32]) -> Next {
+fn next(word: u8, given: Given, desk: &Desk, frame: &mut [f32]) -> Next {
     if word == NEW {
-        Controller::new(speech::settings(desk, ASKED), figures::word(desk, ASKED, 5))
+        Controller::new(
+            speech::settings(desk, ASKED),
+            figures::word(desk, ASKED, speech::SETTINGS),
+        )
     } else if word == PROCESS {
         let known = info(desk, KNOWN);
         let channels = figures::wide(given.first);
@@ -109,7 +139,7 @@ fn next(word: u32, given: Given, desk: &Desk, frame: &mut [f32]) -> Next {
 }
 
 // Answers the question that lies on the desk.
-pub(crate) fn answer(word: u32, given: Given, desk: &mut Desk, frame: &mut [f32]) -> Reply {
+pub(crate) fn answer(word: u8, given: Given, desk: &mut Desk, frame: &mut [f32]) -> Reply {
     let a = next(word, given, desk, frame);
     leave(desk, a.controller);
     Reply {

@@ -9,33 +9,54 @@
 // saturation; two figures each), whether there was a level, the region (0 to 3 in that order) and the
 // duration (two figures); whether it passes; and the gain, which is 0 where none is asked for.
 
-use crate::desk::ASKED;
-use crate::desk::Reply;
-use crate::desk::TOLD;
 use crate::figures;
+use crate::figures::ASKED;
 use crate::figures::Desk;
 use crate::figures::Given;
+use crate::figures::Reply;
+use crate::figures::TOLD;
+use crate::lines;
+use crate::lines::Asked;
+use crate::lines::Wanted;
 use crate::numbers;
+use crate::ring;
 use interpolated_gain_curve::Curve;
 use interpolated_gain_curve::Looked;
 use units::kinds::LinearS16;
 use units::replies::DONE;
 
-// Where the figures stand on the desk.
-pub const FROM: usize = 94;
+// The part's number, how many figures its state has and how many are shown of it, and where these stand and
+// end on the desk.
+pub const PART: u32 = ring::PART + 1;
 
-const SHOWN: usize = 14;
+pub const STATE: usize = 12;
 
-// The words, by their numbers in the list of src/desk.rt.
-pub const FIRST: u32 = 6;
+const SHOWN: usize = STATE + 2;
 
-const NEW: u32 = 6;
+pub const FROM: usize = ring::END;
 
-const SET: u32 = 7;
+pub const END: usize = FROM + SHOWN;
 
-const LEVEL: u32 = 8;
+// The names, each by its letter in the table below.
+const NEW: u8 = b'n';
 
-const STATS: u32 = 9;
+const SET: u8 = b's';
+
+const LEVEL: u8 = b'l';
+
+const STATS: u8 = b't';
+
+// What a line asks of this part, and what was found before where it asks nothing of it.
+pub(crate) fn wanted(line: &[u8], asked: Asked, found: Wanted) -> Wanted {
+    lines::seek(
+        line,
+        asked,
+        found,
+        PART,
+        STATE,
+        b"n0=curve.new s*=curve.set l1=curve.level t0=curve.stats ",
+    )
+}
 
 // The curve whose figures stand at a place.
 pub(crate) fn read(all: &Desk, from: usize) -> Curve {
@@ -51,7 +72,7 @@ pub(crate) fn read(all: &Desk, from: usize) -> Curve {
 }
 
 // The figures that are shown of a curve, with a gain.
-fn shown(curve: Curve, gain: f32) -> [u32; 14] {
+fn shown(curve: Curve, gain: f32) -> [u32; SHOWN] {
     let lasts = numbers::unsigned(curve.duration);
     [
         numbers::high(curve.identity),
@@ -79,7 +100,7 @@ pub(crate) fn put(desk: &mut Desk, from: usize, curve: Curve, gain: f32) {
 
 // The reply to a question about a curve, the curve after it, and a gain. A question that has one figure
 // has a level.
-fn next(word: u32, curve: Curve, level: f32) -> Looked {
+fn next(word: u8, curve: Curve, level: f32) -> Looked {
     if word == NEW {
         Looked {
             reply: DONE,
@@ -105,7 +126,7 @@ fn next(word: u32, curve: Curve, level: f32) -> Looked {
 }
 
 // Answers the question that lies on the desk. The statistics stand there whatever is asked.
-pub(crate) fn answer(word: u32, given: Given, desk: &mut Desk) -> Reply {
+pub(crate) fn answer(word: u8, given: Given, desk: &mut Desk) -> Reply {
     let before = read(desk, numbers::pick(word == SET, ASKED, FROM));
     let a = next(word, before, bits::float_of(given.first));
     let statistics = before.get_stats();
@@ -115,6 +136,6 @@ pub(crate) fn answer(word: u32, given: Given, desk: &mut Desk) -> Reply {
         number: a.reply,
         from: FROM,
         size: SHOWN,
-        told: numbers::pick(word == STATS, 12, 0),
+        told: numbers::pick(word == STATS, STATE, 0),
     }
 }

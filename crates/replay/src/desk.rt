@@ -7,16 +7,15 @@
 //
 //   ratio 41a00000    the ratio of a gain in dB    00000000 41200000
 //
-// A name is a part and, after a dot, what is asked of it: each part's file lists its own. A part has
-// one state here, which goes on from line to line; `new` starts it afresh, and before that every
-// figure of it is 0.
+// A name is a part and, after a dot, what is asked of it. Each part's file has a table of its own names, with how
+// many figures each takes. A part has one state here, which goes on from line to line; `new` starts it afresh, and
+// before that every figure of it is 0.
 //
 // A frame is asked about by NAME CHANNELS SAMPLES and then any number of sample figures up to 3840, so
 // that frames of a wrong length can be asked about too. The controller has six more figures before the
 // samples, and the chain five.
 //
-// The desk is figures in a row: those of the question, the results, and then each part's state with what
-// is shown behind it, as it is answered. A part's file has its question handled in this order: the state is
+// The desk is figures in a row (src/figures.rt). A part's file has its question handled in this order: the state is
 // read from the desk, or from the question where that hands one in; a function of the part's crate is asked,
 // by value; and the state after it is left on the desk.
 
@@ -27,11 +26,14 @@ use crate::estimator;
 use crate::figures;
 use crate::figures::Desk;
 use crate::figures::Given;
+use crate::figures::MOST_ASKED;
+use crate::figures::Reply;
+use crate::figures::TOLD;
 use crate::limits;
 use crate::lines;
 use crate::lines::Asked;
 use crate::lines::Out;
-use crate::numbers;
+use crate::lines::Wanted;
 use crate::protector;
 use crate::ratio;
 use crate::ring;
@@ -39,99 +41,54 @@ use crate::speech;
 use crate::whole;
 use std::num::wrapping_add_usize;
 
-// Where the figures of the question stand, and how many there are at most but for samples.
-pub const ASKED: usize = 0;
-
-pub const MOST_ASKED: usize = 32;
-
-// Where the results stand.
-pub const TOLD: usize = 32;
-
-// What a part answers: the reply's number, where on the desk the figures stand that are shown of the part,
-// how many those are, and how many results there are.
-pub struct Reply {
-    pub number: u32,
-    pub from: usize,
-    pub size: usize,
-    pub told: usize,
+// What a line asks of a part that no frame is handed to, each asked in turn; and what was found before where it asks
+// nothing of them.
+fn wanted_quiet(line: &[u8], asked: Asked, found: Wanted) -> Wanted {
+    let a = ratio::wanted(line, asked, found);
+    let b = ring::wanted(line, asked, a);
+    let c = curve::wanted(line, asked, b);
+    let d = speech::wanted(line, asked, c);
+    protector::wanted(line, asked, d)
 }
 
-// The number of a line's name, in the list of all names. Before each name stands how many figures it
-// takes, as a digit in which a is 10, or a star where it takes a frame, or a plus where it takes one with
-// six figures more, or a minus where it takes one with five more. A line that is no name with its figures
-// has the number after the last.
-fn word_of(line: &[u8], asked: Asked) -> u32 {
-    lines::number_of(
-        line,
-        asked,
-        b"1ratio 0ring.new 6ring.set 1ring.push 0ring.reset 0ring.keep 0curve.new ccurve.set 1curve.level 0curve.stats 1estimator.new 3estimator.set 1estimator.samples 0estimator.reset *estimator.level 2applier.new 5applier.set 1applier.factor *applier.apply 1limiter.new glimiter.set 1limiter.samples 0limiter.reset *limiter.process 6speech.new gspeech.set 2speech.update 0speech.reset 2protector.new mprotector.set 3protector.analyze 0protector.reset 6controller.new econtroller.set +controller.process 7chain.new -chain.step ",
-    )
+// The same of another part.
+fn wanted_loud(line: &[u8], asked: Asked, found: Wanted) -> Wanted {
+    let a = estimator::wanted(line, asked, found);
+    let b = applier::wanted(line, asked, a);
+    let c = limits::wanted(line, asked, b);
+    let d = controller::wanted(line, asked, c);
+    whole::wanted(line, asked, d)
 }
 
-// Whether a name asks about a frame.
-fn is_sound(word: u32) -> bool {
-    (word == estimator::LEVEL)
-        | (word == applier::APPLY)
-        | (word == limits::PROCESS)
-        | (word == controller::PROCESS)
-        | (word == whole::STEP)
-}
-
-// How many figures stand before a frame's samples.
-fn before(word: u32) -> usize {
-    let few = numbers::pick(word == whole::STEP, 7, 2);
-    numbers::pick(word == controller::PROCESS, 8, few)
-}
-
-// How many bytes of a line stand between its name and those samples, each figure with its space, and the
-// space before the first sample.
-fn bytes_before(word: u32) -> usize {
-    let few = numbers::pick(word == whole::STEP, 64, 19);
-    numbers::pick(word == controller::PROCESS, 73, few)
-}
-
-// Whether a name asks a part that no frame is handed to.
-fn is_quiet(word: u32) -> bool {
-    (word < estimator::FIRST) | (speech::FIRST <= word) & (word < controller::FIRST)
-}
-
-// Asks such a part.
-fn of_quiet(word: u32, given: Given, desk: &mut Desk) -> Reply {
-    if word < ring::FIRST {
+// Asks a part that no frame is handed to.
+fn ask_quiet(part: u32, word: u8, given: Given, desk: &mut Desk) -> Reply {
+    if part == ratio::PART {
         ratio::answer(given, desk)
-    } else if word < curve::FIRST {
+    } else if part == ring::PART {
         ring::answer(word, given, desk)
-    } else if word < estimator::FIRST {
+    } else if part == curve::PART {
         curve::answer(word, given, desk)
-    } else if word < protector::FIRST {
+    } else if part == speech::PART {
         speech::answer(word, given, desk)
     } else {
         protector::answer(word, given, desk)
     }
 }
 
-// Asks another part.
-fn of_loud(word: u32, given: Given, desk: &mut Desk, frame: &mut [f32]) -> Reply {
-    if word < applier::FIRST {
+// Asks any part, which leaves its figures on the desk, and answers the reply.
+fn ask(part: u32, word: u8, given: Given, desk: &mut Desk, frame: &mut [f32]) -> Reply {
+    if part == estimator::PART {
         estimator::answer(word, given, desk, frame)
-    } else if word < limits::FIRST {
+    } else if part == applier::PART {
         applier::answer(word, given, desk, frame)
-    } else if word < speech::FIRST {
+    } else if part == limits::PART {
         limits::answer(word, given, desk, frame)
-    } else if word < whole::FIRST {
+    } else if part == controller::PART {
         controller::answer(word, given, desk, frame)
-    } else {
+    } else if part == whole::PART {
         whole::answer(word, given, desk, frame)
-    }
-}
-
-// Asks the part, which leaves its figures on the desk, and answers the reply.
-fn of_part(word: u32, desk: &mut Desk, frame: &mut [f32]) -> Reply {
-    let given = figures::asked(desk);
-    if is_quiet(word) {
-        of_quiet(word, given, desk)
     } else {
-        of_loud(word, given, desk, frame)
+        ask_quiet(part, word, given, desk)
     }
 }
 
@@ -144,31 +101,43 @@ fn put(out: &mut Out, at: usize, reply: Reply, desk: &Desk, frame: &[f32]) -> us
     lines::end(out, at, last)
 }
 
+// Lays a question on the desk, and its samples into a frame, and answers its first figures.
+fn lay(line: &[u8], name: usize, skip: usize, desk: &mut Desk, frame: &mut [f32]) -> Given {
+    figures::ask(desk, line, name, MOST_ASKED);
+    lines::fill(line, wrapping_add_usize(name, skip), frame);
+    figures::asked(desk)
+}
+
 // Answers what is asked, over a frame of as many samples as there are figures for.
 fn answer_in(
     line: &[u8],
     name: usize,
-    word: u32,
+    wanted: Wanted,
     desk: &mut Desk,
     frame: &mut [f32],
     out: &mut Out,
     at: usize,
 ) -> usize {
-    figures::ask(desk, line, name, MOST_ASKED);
-    lines::fill(line, wrapping_add_usize(name, bytes_before(word)), frame);
-    let reply = of_part(word, desk, frame);
+    let given = lay(line, name, wanted.skip, desk, frame);
+    let reply = ask(wanted.part, wanted.word, given, desk, frame);
     put(out, at, reply, desk, frame)
 }
 
 // Answers a line: puts the answer at a place of a buffer, and answers the place after it.
 pub(crate) fn answer(line: &[u8], desk: &mut Desk, out: &mut Out, at: usize) -> usize {
     let asked = lines::split(line);
-    let word = word_of(line, asked);
-    if whole::LAST <= word {
+    let none = Wanted {
+        part: 0,
+        word: 0,
+        samples: 0,
+        skip: 0,
+    };
+    let quiet = wanted_quiet(line, asked, none);
+    let wanted = wanted_loud(line, asked, quiet);
+    if wanted.part == 0 {
         return lines::end(out, at, at);
     }
     let mut frame = [0.0f32; lines::MOST];
-    let count = numbers::pick(is_sound(word), asked.count, 0);
-    let n = lines::samples_of(count, before(word), &frame);
-    answer_in(line, asked.name, word, desk, &mut frame[..n], out, at)
+    let n = lines::within(wanted.samples, &frame);
+    answer_in(line, asked.name, wanted, desk, &mut frame[..n], out, at)
 }

@@ -9,12 +9,16 @@
 // Each answer shows the state, which is three figures (the level, the samples of a channel and those of
 // a sub-frame); whether it passes; and last_audio_level (a reply and the level).
 
-use crate::desk::ASKED;
-use crate::desk::Reply;
-use crate::desk::TOLD;
+use crate::curve;
 use crate::figures;
+use crate::figures::ASKED;
 use crate::figures::Desk;
 use crate::figures::Given;
+use crate::figures::Reply;
+use crate::figures::TOLD;
+use crate::lines;
+use crate::lines::Asked;
+use crate::lines::Wanted;
 use crate::numbers;
 use fixed_digital_level_estimator::Estimator;
 use fixed_digital_level_estimator::Levels;
@@ -22,23 +26,43 @@ use fixed_digital_level_estimator::Next;
 use units::kinds::LinearS16;
 use units::replies::DONE;
 
-// Where the figures stand on the desk.
-pub const FROM: usize = 108;
+// The part's number, how many figures its state has and how many are shown of it, and where these stand and
+// end on the desk.
+pub const PART: u32 = curve::PART + 1;
 
-const SHOWN: usize = 6;
+pub const STATE: usize = 3;
 
-// The words, by their numbers in the list of src/desk.rt.
-pub const FIRST: u32 = 10;
+const SHOWN: usize = STATE + 3;
 
-const NEW: u32 = 10;
+pub const FROM: usize = curve::END;
 
-const SET: u32 = 11;
+pub const END: usize = FROM + SHOWN;
 
-const SAMPLES: u32 = 12;
+// How many sub-frames a frame has.
+const SUB_FRAMES: usize = 20;
 
-const RESET: u32 = 13;
+// The names, each by its letter in the table below.
+const NEW: u8 = b'n';
 
-pub const LEVEL: u32 = 14;
+const SET: u8 = b's';
+
+const SAMPLES: u8 = b'c';
+
+const RESET: u8 = b'r';
+
+const LEVEL: u8 = b'l';
+
+// What a line asks of this part, and what was found before where it asks nothing of it.
+pub(crate) fn wanted(line: &[u8], asked: Asked, found: Wanted) -> Wanted {
+    lines::seek(
+        line,
+        asked,
+        found,
+        PART,
+        STATE,
+        b"n1=estimator.new s*=estimator.set c1=estimator.samples r0=estimator.reset l2+estimator.level ",
+    )
+}
 
 // The estimator whose figures stand at a place.
 pub(crate) fn read(all: &Desk, from: usize) -> Estimator {
@@ -50,7 +74,7 @@ pub(crate) fn read(all: &Desk, from: usize) -> Estimator {
 }
 
 // The figures that are shown of an estimator.
-fn shown(estimator: Estimator) -> [u32; 6] {
+fn shown(estimator: Estimator) -> [u32; SHOWN] {
     let heard = estimator.last_audio_level();
     [
         bits::bits_of(estimator.level),
@@ -71,7 +95,7 @@ pub(crate) fn put(desk: &mut Desk, from: usize, estimator: Estimator) {
 // What is answered where no envelope is asked for.
 fn still(a: Next) -> Levels {
     let estimator = a.estimator;
-    let envelope = [LinearS16(0.0); 20];
+    let envelope = [LinearS16(0.0); SUB_FRAMES];
     Levels {
         reply: a.reply,
         estimator,
@@ -80,7 +104,7 @@ fn still(a: Next) -> Levels {
 }
 
 // The reply to a question about an estimator, the estimator after it, and the envelope.
-fn next(word: u32, estimator: Estimator, given: Given, frame: &[f32]) -> Levels {
+fn next(word: u8, estimator: Estimator, given: Given, frame: &[f32]) -> Levels {
     let first = figures::wide(given.first);
     if word == NEW {
         still(Estimator::new(first))
@@ -99,7 +123,7 @@ fn next(word: u32, estimator: Estimator, given: Given, frame: &[f32]) -> Levels 
 }
 
 // Answers the question that lies on the desk. An envelope stands there whatever is asked.
-pub(crate) fn answer(word: u32, given: Given, desk: &mut Desk, frame: &[f32]) -> Reply {
+pub(crate) fn answer(word: u8, given: Given, desk: &mut Desk, frame: &[f32]) -> Reply {
     let before = read(desk, numbers::pick(word == SET, ASKED, FROM));
     let a = next(word, before, given, frame);
     let envelope = a.envelope;
@@ -109,6 +133,6 @@ pub(crate) fn answer(word: u32, given: Given, desk: &mut Desk, frame: &[f32]) ->
         number: a.reply,
         from: FROM,
         size: SHOWN,
-        told: numbers::pick(word == LEVEL, 20, 0),
+        told: numbers::pick(word == LEVEL, SUB_FRAMES, 0),
     }
 }

@@ -1,15 +1,42 @@
-// Figures in a row, as the desk has them. Every function takes any place: one that lies outside holds
-// 0, and nothing is stored there.
+// The desk: figures in a row. First come those of the question, then the results, and then each part's, as
+// they are shown in an answer. Every function takes any place: one that lies outside holds 0, and nothing is
+// stored there.
+//
+// No number here or in a part's file depends on another that is written by hand: a part's figures begin where
+// those of the part before it end, and the desk ends with the last part's.
 
 use crate::numbers;
+use crate::whole;
 use std::num::wrapping_add_usize;
 use units::kinds::LinearS16;
 
-// How many figures the desk has, for the parts of today and some more.
-pub const FIGURES: usize = 256;
+// Where the figures of the question stand, and how many there can be but for samples.
+pub const ASKED: usize = 0;
+
+pub const MOST_ASKED: usize = 192;
+
+// Where the results stand, and how many there can be.
+pub const TOLD: usize = ASKED + MOST_ASKED;
+
+const MOST_TOLD: usize = 64;
+
+// Where the first part's figures stand.
+pub const PARTS: usize = TOLD + MOST_TOLD;
+
+// How many figures the desk has.
+pub const FIGURES: usize = whole::END;
 
 // The desk.
-pub type Desk = [u32; 256];
+pub type Desk = [u32; FIGURES];
+
+// What a part answers: the reply's number, where on the desk the figures stand that are shown of the part,
+// how many those are, and how many results there are.
+pub struct Reply {
+    pub number: u32,
+    pub from: usize,
+    pub size: usize,
+    pub told: usize,
+}
 
 // The figure at a place.
 fn at(all: &Desk, place: usize) -> u32 {
@@ -60,24 +87,6 @@ pub(crate) fn asked(desk: &Desk) -> Given {
         first: at(desk, 0),
         second: at(desk, 1),
         third: at(desk, 2),
-    }
-}
-
-// The figures of four floats.
-pub struct Four {
-    pub first: u32,
-    pub second: u32,
-    pub third: u32,
-    pub fourth: u32,
-}
-
-// Those of the four in an array.
-pub(crate) fn four_of(some: [f32; 4]) -> Four {
-    Four {
-        first: bits::bits_of(some[0]),
-        second: bits::bits_of(some[1]),
-        third: bits::bits_of(some[2]),
-        fourth: bits::bits_of(some[3]),
     }
 }
 

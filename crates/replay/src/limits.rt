@@ -9,55 +9,77 @@
 // Each answer shows the state, which is sixteen figures (the carried factor, the level estimator's three
 // and the curve's twelve); whether it passes; and last_audio_level (a reply and the level).
 
+use crate::applier;
 use crate::curve;
-use crate::desk::ASKED;
-use crate::desk::Reply;
 use crate::estimator;
 use crate::figures;
+use crate::figures::ASKED;
 use crate::figures::Desk;
 use crate::figures::Given;
+use crate::figures::Reply;
+use crate::lines;
+use crate::lines::Asked;
+use crate::lines::Wanted;
 use crate::numbers;
 use limiter::Limiter;
 use limiter::Next;
 use std::num::wrapping_add_usize;
 use units::replies::DONE;
 
-// Where the figures stand on the desk.
-pub const FROM: usize = 122;
+// The part's number, how many figures its state has and how many are shown of it, and where these stand and
+// end on the desk.
+pub const PART: u32 = applier::PART + 1;
 
-const SHOWN: usize = 19;
+pub const STATE: usize = CURVE + curve::STATE;
 
-// Where the level estimator's and the curve's stand behind the carried factor, and the rest behind them.
-const ESTIMATOR: usize = 123;
+const SHOWN: usize = STATE + REST;
 
-const CURVE: usize = 126;
+pub const FROM: usize = applier::END;
 
-const REST: usize = 138;
+pub const END: usize = FROM + SHOWN;
 
-// The words, by their numbers in the list of src/desk.rt.
-pub const FIRST: u32 = 19;
+// Where the level estimator's and the curve's stand behind the carried factor, and how many figures are shown
+// behind the state.
+const ESTIMATOR: usize = 1;
 
-const NEW: u32 = 19;
+const CURVE: usize = ESTIMATOR + estimator::STATE;
 
-const SET: u32 = 20;
+const REST: usize = 3;
 
-const SAMPLES: u32 = 21;
+// The names, each by its letter in the table below.
+const NEW: u8 = b'n';
 
-const RESET: u32 = 22;
+const SET: u8 = b's';
 
-pub const PROCESS: u32 = 23;
+const SAMPLES: u8 = b'c';
+
+const RESET: u8 = b'r';
+
+const PROCESS: u8 = b'p';
+
+// What a line asks of this part, and what was found before where it asks nothing of it.
+pub(crate) fn wanted(line: &[u8], asked: Asked, found: Wanted) -> Wanted {
+    lines::seek(
+        line,
+        asked,
+        found,
+        PART,
+        STATE,
+        b"n1=limiter.new s*=limiter.set c1=limiter.samples r0=limiter.reset p2+limiter.process ",
+    )
+}
 
 // The limiter whose figures stand at a place.
 pub(crate) fn read(all: &Desk, from: usize) -> Limiter {
     Limiter {
-        estimator: estimator::read(all, wrapping_add_usize(from, 1)),
-        curve: curve::read(all, wrapping_add_usize(from, 4)),
+        estimator: estimator::read(all, wrapping_add_usize(from, ESTIMATOR)),
+        curve: curve::read(all, wrapping_add_usize(from, CURVE)),
         carried: figures::float(all, from, 0),
     }
 }
 
 // The figures that are shown of a limiter behind its state.
-fn rest(limiter: Limiter) -> [u32; 3] {
+fn rest(limiter: Limiter) -> [u32; REST] {
     let heard = limiter.last_audio_level();
     [
         numbers::flag(limiter.passes()),
@@ -71,13 +93,13 @@ fn rest(limiter: Limiter) -> [u32; 3] {
 pub(crate) fn leave(desk: &mut Desk, limiter: Limiter) {
     let last = rest(limiter);
     figures::store(desk, FROM, bits::bits_of(limiter.carried));
-    estimator::put(desk, ESTIMATOR, limiter.estimator);
-    curve::put(desk, CURVE, limiter.curve, 0.0);
-    figures::put(desk, REST, &last);
+    estimator::put(desk, FROM + ESTIMATOR, limiter.estimator);
+    curve::put(desk, FROM + CURVE, limiter.curve, 0.0);
+    figures::put(desk, FROM + STATE, &last);
 }
 
 // The reply to a question about a limiter, and the limiter after it.
-fn next(word: u32, limiter: Limiter, given: Given, frame: &mut [f32]) -> Next {
+fn next(word: u8, limiter: Limiter, given: Given, frame: &mut [f32]) -> Next {
     let first = figures::wide(given.first);
     if word == NEW {
         Limiter::new(first)
@@ -96,7 +118,7 @@ fn next(word: u32, limiter: Limiter, given: Given, frame: &mut [f32]) -> Next {
 }
 
 // Answers the question that lies on the desk.
-pub(crate) fn answer(word: u32, given: Given, desk: &mut Desk, frame: &mut [f32]) -> Reply {
+pub(crate) fn answer(word: u8, given: Given, desk: &mut Desk, frame: &mut [f32]) -> Reply {
     let before = read(desk, numbers::pick(word == SET, ASKED, FROM));
     let a = next(word, before, given, frame);
     leave(desk, a.limiter);

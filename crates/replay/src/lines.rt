@@ -7,7 +7,6 @@ ghost use lib.ListN.{length, take};
 use crate::figures;
 use crate::figures::Desk;
 use crate::numbers;
-use std::num::wrapping_add_u32;
 use std::num::wrapping_add_usize;
 
 // What a line says: whether it is a name and then figures, where the name ends, and how many figures
@@ -57,23 +56,13 @@ pub(crate) fn split(line: &[u8]) -> Asked {
 // The most samples that a frame can have.
 pub const MOST: usize = 3840;
 
-// How many figures a byte of a list says to stand before a frame's samples: a star two, a plus six more, and
-// a minus five more. Where it says of no frame, 0.
-fn before(byte: u8) -> usize {
-    let few = numbers::pick(byte == b'-', 7, 0);
-    let some = numbers::pick(byte == b'+', 8, few);
-    numbers::pick(byte == b'*', 2, some)
-}
-
-// Whether so many figures are as many as a byte of a list says: a digit, in which a is 10, or those before a
-// frame's samples and then the samples.
-fn is_due(count: usize, byte: u8) -> bool {
-    let first = before(byte);
-    if first == 0 {
-        byte_at(b"0123456789abcdefghijklmnopqrstuv", count) == byte
-    } else {
-        (first <= count) & (after(count, first) <= MOST)
-    }
+// What a line asks: the number of the part, which is 0 where it asks none; the letter of its name in the part's
+// table; how many samples it has; and how many bytes stand between its name and the first of them.
+pub struct Wanted {
+    pub part: u32,
+    pub word: u8,
+    pub samples: usize,
+    pub skip: usize,
 }
 
 // How many of so many figures follow the first few.
@@ -81,43 +70,83 @@ fn after(count: usize, first: usize) -> usize {
     if count < first { 0 } else { count - first }
 }
 
-// The number of a line's name among the names of a list, which are counted from 0, and each has the byte
-// of `is_due` before it and one space after it. Where it is none of them, or does not have its figures,
-// how many there are.
-pub(crate) fn number_of(line: &[u8], asked: Asked, list: &[u8]) -> u32 {
-    let mut n: u32 = 0;
-    let mut at: usize = 0;
-    let mut same = asked.ok;
-    let mut due = true;
-    let mut i = 0;
-    while i < list.len() {
-        let byte = list[i];
-        i += 1;
-        if due {
-            due = false;
-            same = asked.ok & is_due(asked.count, byte);
-            at = 0;
-        } else if byte == b' ' {
-            if same & (at == asked.name) {
-                return n;
-            }
-            n = wrapping_add_u32(n, 1);
-            due = true;
-        } else {
-            same = same & (byte_at(line, at) == byte);
-            at = wrapping_add_usize(at, 1);
-        }
+// How many figures a byte of a table stands for: a digit, or a star for those of a state.
+fn figures_of(byte: u8, state: usize) -> usize {
+    if byte == b'*' {
+        state
+    } else {
+        after(byte as usize, 48)
     }
-    n
 }
 
-// How many of so many figures are a frame's samples: those after the first few, and no more than there
-// is room for.
-pub(crate) fn samples_of(count: usize, first: usize, frame: &[f32]) -> usize
+// How many bytes so many figures take, each with its space, and one space more.
+fn bytes_of(count: usize) -> usize {
+    if count < 1000 { 9 * count + 1 } else { 0 }
+}
+
+// What a line asks of a part that has the name whose entry stands at a place of the part's table: nothing where it
+// does not have the entry's figures. Where a plus follows their number, samples follow the figures.
+fn entry(asked: Asked, part: u32, state: usize, table: &[u8], at: usize) -> Wanted {
+    let due = figures_of(byte_at(table, wrapping_add_usize(at, 1)), state);
+    let samples = after(asked.count, due);
+    let sound = byte_at(table, wrapping_add_usize(at, 2)) == b'+';
+    let most = numbers::pick(sound, MOST, 0);
+    let ok = asked.ok & (due <= asked.count) & (samples <= most);
+    Wanted {
+        part: if ok { part } else { 0 },
+        word: byte_at(table, at),
+        samples,
+        skip: bytes_of(due),
+    }
+}
+
+// Whether the name of so many bytes that a line begins with stands at a place of a table, with a space after it.
+fn is_spelled(line: &[u8], name: usize, table: &[u8], at: usize) -> bool {
+    let mut j: usize = 0;
+    while j < name {
+        if byte_at(line, j) != byte_at(table, wrapping_add_usize(at, j)) {
+            return false;
+        }
+        j += 1;
+    }
+    byte_at(table, wrapping_add_usize(at, name)) == b' '
+}
+
+// What a line asks of a part with this number, whose state has so many figures and whose table of names is given; and
+// what was found before where its name is not there. An entry of the table is a letter, which the part knows the name
+// by; how many figures the name takes (`figures_of`); an equals sign, or a plus where any number of samples up to 3840
+// follows; the name; and a space.
+pub(crate) fn seek(
+    line: &[u8],
+    asked: Asked,
+    found: Wanted,
+    part: u32,
+    state: usize,
+    table: &[u8],
+) -> Wanted {
+    let mut first = true;
+    let mut i = 0;
+    while i < table.len() {
+        if first {
+            if is_spelled(line, asked.name, table, wrapping_add_usize(i, 3)) {
+                return entry(asked, part, state, table, i);
+            }
+        }
+        first = table[i] == b' ';
+        i += 1;
+    }
+    found
+}
+
+// How many samples of a frame there are, and no more than there is room for.
+pub(crate) fn within(samples: usize, frame: &[f32]) -> usize
     ensures { λ r. ⌜ (r ≤ length (now (frame .entry))) × (r ≡ length (take r (now (frame .entry)))) ⌝ }
 {
-    let n = after(count, first);
-    if n <= frame.len() { n } else { frame.len() }
+    if samples <= frame.len() {
+        samples
+    } else {
+        frame.len()
+    }
 }
 
 // Fills a frame with the figures of a line from a place on.

@@ -10,14 +10,17 @@
 // one, each as its headroom, its ring (the place, the size and the four that are stored), the largest peak
 // and the time since the last push); whether it passes; and headroom_db (a reply and the headroom).
 
-use crate::desk::ASKED;
-use crate::desk::Reply;
 use crate::figures;
+use crate::figures::ASKED;
 use crate::figures::Desk;
-use crate::figures::Four;
 use crate::figures::Given;
+use crate::figures::Reply;
+use crate::lines;
+use crate::lines::Asked;
+use crate::lines::Wanted;
 use crate::numbers;
 use crate::ring;
+use crate::speech;
 use saturation_protector::Next;
 use saturation_protector::Peaks;
 use saturation_protector::Protector;
@@ -26,29 +29,61 @@ use units::kinds::Db;
 use units::kinds::Dbfs;
 use units::replies::DONE;
 
-// Where the figures stand on the desk.
-pub const FROM: usize = 162;
+// The part's number, how many figures its state has and how many are shown of it, and where these stand and
+// end on the desk.
+pub const PART: u32 = speech::PART + 1;
 
-const SHOWN: usize = 25;
+pub const STATE: usize = RELIABLE + PEAKS;
 
-// The words, by their numbers in the list of src/desk.rt.
-pub const FIRST: u32 = 28;
+const SHOWN: usize = STATE + REST;
 
-const NEW: u32 = 28;
+pub const FROM: usize = speech::END;
 
-const SET: u32 = 29;
+pub const END: usize = FROM + SHOWN;
 
-const ANALYZE: u32 = 30;
+// Where the ring stands in one of the two states, and the largest peak; how many figures such a state has; where
+// the two stand in the part's state; and how many figures are shown behind it.
+const RING: usize = 1;
 
-const RESET: u32 = 31;
+const LARGEST: usize = RING + ring::STATE;
+
+const PEAKS: usize = LARGEST + 2;
+
+const PRELIMINARY: usize = 4;
+
+const RELIABLE: usize = PRELIMINARY + PEAKS;
+
+const REST: usize = 3;
+
+// The names, each by its letter in the table below.
+const NEW: u8 = b'n';
+
+const SET: u8 = b's';
+
+const ANALYZE: u8 = b'a';
+
+const RESET: u8 = b'r';
+
+// What a line asks of this part, and what was found before where it asks nothing of it.
+pub(crate) fn wanted(line: &[u8], asked: Asked, found: Wanted) -> Wanted {
+    lines::seek(
+        line,
+        asked,
+        found,
+        PART,
+        STATE,
+        b"n2=protector.new s*=protector.set a3=protector.analyze r0=protector.reset ",
+    )
+}
 
 // The state whose figures stand at a place.
 fn peaks(all: &Desk, from: usize) -> Peaks {
+    let last = wrapping_add_usize(from, LARGEST);
     Peaks {
         headroom: figures::float(all, from, 0),
-        ring: ring::read(all, wrapping_add_usize(from, 1)),
-        largest: figures::float(all, from, 7),
-        elapsed: figures::word(all, from, 8),
+        ring: ring::read(all, wrapping_add_usize(from, RING)),
+        largest: figures::float(all, last, 0),
+        elapsed: figures::word(all, last, 1),
     }
 }
 
@@ -59,63 +94,33 @@ pub(crate) fn read(all: &Desk, from: usize) -> Protector {
         threshold: figures::word(all, from, 1),
         count: figures::word(all, from, 2),
         headroom: figures::float(all, from, 3),
-        preliminary: peaks(all, wrapping_add_usize(from, 4)),
-        reliable: peaks(all, wrapping_add_usize(from, 13)),
+        preliminary: peaks(all, wrapping_add_usize(from, PRELIMINARY)),
+        reliable: peaks(all, wrapping_add_usize(from, RELIABLE)),
     }
 }
 
-// The figures of one of the two states.
-struct Written {
-    headroom: u32,
-    place: u32,
-    size: u32,
-    stored: Four,
-    largest: u32,
-    elapsed: u32,
+// Stores the figures of one of the two states, from a place on.
+fn put_peaks(desk: &mut Desk, from: usize, state: Peaks) {
+    let last = [bits::bits_of(state.largest), state.elapsed];
+    figures::store(desk, from, bits::bits_of(state.headroom));
+    ring::put(desk, wrapping_add_usize(from, RING), state.ring);
+    figures::put(desk, wrapping_add_usize(from, LARGEST), &last);
 }
 
-// Those of a state.
-fn of_state(state: Peaks) -> Written {
-    let ring = state.ring;
-    let stored = ring.stored;
-    Written {
-        headroom: bits::bits_of(state.headroom),
-        place: numbers::narrow(ring.place),
-        size: numbers::narrow(ring.size),
-        stored: figures::four_of(stored),
-        largest: bits::bits_of(state.largest),
-        elapsed: state.elapsed,
-    }
-}
-
-// The figures that are shown of a protector.
-fn shown(protector: Protector) -> [u32; 25] {
-    let before = of_state(protector.preliminary);
-    let trusted = of_state(protector.reliable);
-    let told = protector.headroom_db();
+// The first figures that are shown of a protector.
+fn first(protector: Protector) -> [u32; PRELIMINARY] {
     [
         bits::bits_of(protector.initial),
         protector.threshold,
         protector.count,
         bits::bits_of(protector.headroom),
-        before.headroom,
-        before.place,
-        before.size,
-        before.stored.first,
-        before.stored.second,
-        before.stored.third,
-        before.stored.fourth,
-        before.largest,
-        before.elapsed,
-        trusted.headroom,
-        trusted.place,
-        trusted.size,
-        trusted.stored.first,
-        trusted.stored.second,
-        trusted.stored.third,
-        trusted.stored.fourth,
-        trusted.largest,
-        trusted.elapsed,
+    ]
+}
+
+// Those that are shown behind its state.
+fn rest(protector: Protector) -> [u32; REST] {
+    let told = protector.headroom_db();
+    [
         numbers::flag(protector.passes()),
         told.reply,
         bits::bits_of(told.headroom.0),
@@ -124,12 +129,16 @@ fn shown(protector: Protector) -> [u32; 25] {
 
 // Leaves a protector's figures on the desk.
 pub(crate) fn leave(desk: &mut Desk, protector: Protector) {
-    let all = shown(protector);
-    figures::put(desk, FROM, &all);
+    let ahead = first(protector);
+    let behind = rest(protector);
+    figures::put(desk, FROM, &ahead);
+    put_peaks(desk, FROM + PRELIMINARY, protector.preliminary);
+    put_peaks(desk, FROM + RELIABLE, protector.reliable);
+    figures::put(desk, FROM + STATE, &behind);
 }
 
 // The reply to a question about a protector, and the protector after it.
-fn next(word: u32, protector: Protector, given: Given) -> Next {
+fn next(word: u8, protector: Protector, given: Given) -> Next {
     let first = bits::float_of(given.first);
     if word == NEW {
         Protector::new(Db(first), given.second)
@@ -150,7 +159,7 @@ fn next(word: u32, protector: Protector, given: Given) -> Next {
 }
 
 // Answers the question that lies on the desk.
-pub(crate) fn answer(word: u32, given: Given, desk: &mut Desk) -> Reply {
+pub(crate) fn answer(word: u8, given: Given, desk: &mut Desk) -> Reply {
     let before = read(desk, numbers::pick(word == SET, ASKED, FROM));
     let a = next(word, before, given);
     leave(desk, a.protector);

@@ -11,37 +11,66 @@
 // its value); how many peaks there are (a reply and the number); and whether it equals the one that was
 // put aside (a reply and a bool).
 
-use crate::desk::ASKED;
-use crate::desk::Reply;
 use crate::figures;
+use crate::figures::ASKED;
 use crate::figures::Desk;
 use crate::figures::Given;
+use crate::figures::Reply;
+use crate::lines;
+use crate::lines::Asked;
+use crate::lines::Wanted;
 use crate::numbers;
+use crate::ratio;
 use saturation_protector_buffer::Front;
 use saturation_protector_buffer::Next;
 use saturation_protector_buffer::Ring;
+use std::num::wrapping_add_usize;
 use units::kinds::Dbfs;
 use units::replies::DONE;
 
-// Where the figures stand on the desk, and those of the ring that is put aside.
-pub const FROM: usize = 64;
+// The part's number, how many figures its state has and how many are shown of it, and where these stand and
+// end on the desk.
+pub const PART: u32 = ratio::PART + 1;
 
-const SHOWN: usize = 15;
+pub const STATE: usize = STORED + 4;
 
-const ASIDE: usize = 79;
+const SHOWN: usize = STATE + REST;
 
-// The words, by their numbers in the list of src/desk.rt.
-pub const FIRST: u32 = 1;
+pub const FROM: usize = ratio::END;
 
-const NEW: u32 = 1;
+// The ring that is put aside stands behind it.
+const ASIDE: usize = FROM + SHOWN;
 
-const SET: u32 = 2;
+pub const END: usize = ASIDE + SHOWN;
 
-const PUSH: u32 = 3;
+// Where the peaks stand that are stored, behind the place and the size; and how many figures are shown behind
+// the state.
+const STORED: usize = 2;
 
-const RESET: u32 = 4;
+const REST: usize = 9;
 
-const KEEP: u32 = 5;
+// The names, each by its letter in the table below.
+const NEW: u8 = b'n';
+
+const SET: u8 = b's';
+
+const PUSH: u8 = b'p';
+
+const RESET: u8 = b'r';
+
+const KEEP: u8 = b'k';
+
+// What a line asks of this part, and what was found before where it asks nothing of it.
+pub(crate) fn wanted(line: &[u8], asked: Asked, found: Wanted) -> Wanted {
+    lines::seek(
+        line,
+        asked,
+        found,
+        PART,
+        STATE,
+        b"n0=ring.new s*=ring.set p1=ring.push r0=ring.reset k0=ring.keep ",
+    )
+}
 
 // The ring whose figures stand at a place.
 pub(crate) fn read(all: &Desk, from: usize) -> Ring {
@@ -73,21 +102,21 @@ fn case(front: Front) -> u32 {
     }
 }
 
-// The figures that are shown of a ring.
-fn shown(ring: Ring, aside: Ring) -> [u32; 15] {
-    let peaks = ring.stored;
-    let stored = figures::four_of(peaks);
+// Stores the figures of a ring's state, from a place on.
+pub(crate) fn put(desk: &mut Desk, from: usize, ring: Ring) {
+    let stored = ring.stored;
+    let first = [numbers::narrow(ring.place), numbers::narrow(ring.size)];
+    figures::put(desk, from, &first);
+    figures::put_floats(desk, wrapping_add_usize(from, STORED), &stored);
+}
+
+// The figures that are shown of a ring behind its state.
+fn rest(ring: Ring, aside: Ring) -> [u32; REST] {
     let oldest = ring.front();
     let front = oldest.front;
     let size = ring.size();
     let same = ring.equals(aside);
     [
-        numbers::narrow(ring.place),
-        numbers::narrow(ring.size),
-        stored.first,
-        stored.second,
-        stored.third,
-        stored.fourth,
         numbers::flag(ring.passes()),
         numbers::narrow(saturation_protector_buffer::capacity()),
         oldest.reply,
@@ -101,7 +130,7 @@ fn shown(ring: Ring, aside: Ring) -> [u32; 15] {
 }
 
 // The reply to a question about a ring, and the ring after it. A question that has a figure has a peak.
-fn next(word: u32, ring: Ring, peak: f32) -> Next {
+fn next(word: u8, ring: Ring, peak: f32) -> Next {
     if word == NEW {
         Next {
             reply: DONE,
@@ -117,13 +146,14 @@ fn next(word: u32, ring: Ring, peak: f32) -> Next {
 }
 
 // Answers the question that lies on the desk. A ring that is put aside is shown from there.
-pub(crate) fn answer(word: u32, given: Given, desk: &mut Desk) -> Reply {
+pub(crate) fn answer(word: u8, given: Given, desk: &mut Desk) -> Reply {
     let before = read(desk, numbers::pick(word == SET, ASKED, FROM));
     let aside = read(desk, numbers::pick(word == KEEP, FROM, ASIDE));
     let to = numbers::pick(word == KEEP, ASIDE, FROM);
     let a = next(word, before, bits::float_of(given.first));
-    let all = shown(a.ring, aside);
-    figures::put(desk, to, &all);
+    let last = rest(a.ring, aside);
+    put(desk, to, a.ring);
+    figures::put(desk, wrapping_add_usize(to, STATE), &last);
     Reply {
         number: a.reply,
         from: to,

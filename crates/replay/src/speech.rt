@@ -10,11 +10,15 @@
 // published level, whether it is trusted, and the count of adjacent speech frames); whether it passes;
 // level_dbfs (a reply and the level); and is_confident (a reply and a bool).
 
-use crate::desk::ASKED;
-use crate::desk::Reply;
 use crate::figures;
+use crate::figures::ASKED;
 use crate::figures::Desk;
 use crate::figures::Given;
+use crate::figures::Reply;
+use crate::limits;
+use crate::lines;
+use crate::lines::Asked;
+use crate::lines::Wanted;
 use crate::numbers;
 use speech_level_estimator::Average;
 use speech_level_estimator::Estimator;
@@ -25,21 +29,41 @@ use units::kinds::Dbfs;
 use units::replies::DONE;
 use units::settings::Settings;
 
-// Where the figures stand on the desk.
-pub const FROM: usize = 141;
+// The part's number, how many figures its state has and how many are shown of it, and where these stand and
+// end on the desk.
+pub const PART: u32 = limits::PART + 1;
 
-const SHOWN: usize = 21;
+pub const STATE: usize = SETTINGS + 11;
 
-// The words, by their numbers in the list of src/desk.rt.
-pub const FIRST: u32 = 24;
+const SHOWN: usize = STATE + 5;
 
-const NEW: u32 = 24;
+pub const FROM: usize = limits::END;
 
-const SET: u32 = 25;
+pub const END: usize = FROM + SHOWN;
 
-const UPDATE: u32 = 26;
+// How many of these are settings.
+pub const SETTINGS: usize = 5;
 
-const RESET: u32 = 27;
+// The names, each by its letter in the table below.
+const NEW: u8 = b'n';
+
+const SET: u8 = b's';
+
+const UPDATE: u8 = b'u';
+
+const RESET: u8 = b'r';
+
+// What a line asks of this part, and what was found before where it asks nothing of it.
+pub(crate) fn wanted(line: &[u8], asked: Asked, found: Wanted) -> Wanted {
+    lines::seek(
+        line,
+        asked,
+        found,
+        PART,
+        STATE,
+        b"n6=speech.new s*=speech.set u2=speech.update r0=speech.reset ",
+    )
+}
 
 // The settings whose figures stand at a place.
 pub(crate) fn settings(all: &Desk, from: usize) -> Settings {
@@ -76,7 +100,7 @@ pub(crate) fn read(all: &Desk, from: usize) -> Estimator {
 }
 
 // The figures that are shown of an estimator.
-fn shown(estimator: Estimator) -> [u32; 21] {
+fn shown(estimator: Estimator) -> [u32; SHOWN] {
     let told = estimator.level_dbfs();
     let sure = estimator.is_confident();
     [
@@ -112,7 +136,7 @@ pub(crate) fn leave(desk: &mut Desk, estimator: Estimator) {
 
 // The reply to a question about an estimator, and the estimator after it. The one that is started afresh has
 // the settings and the threshold of the one that is given.
-fn next(word: u32, estimator: Estimator, given: Given) -> Next {
+fn next(word: u8, estimator: Estimator, given: Given) -> Next {
     if word == NEW {
         Estimator::new(estimator.settings, estimator.threshold)
     } else if word == UPDATE {
@@ -131,8 +155,11 @@ fn next(word: u32, estimator: Estimator, given: Given) -> Next {
 }
 
 // Answers the question that lies on the desk. The figures of speech.new stand as those of a state do.
-pub(crate) fn answer(word: u32, given: Given, desk: &mut Desk) -> Reply {
-    let before = read(desk, numbers::pick(word <= SET, ASKED, FROM));
+pub(crate) fn answer(word: u8, given: Given, desk: &mut Desk) -> Reply {
+    let before = read(
+        desk,
+        numbers::pick((word == NEW) | (word == SET), ASKED, FROM),
+    );
     let a = next(word, before, given);
     leave(desk, a.estimator);
     Reply {

@@ -1,23 +1,32 @@
-// The chain. Its four parts stand where the limiter, the level of the speech, the protector and the
-// controller stand on the desk, so each of them can be handed in by its own name.
+// The chain. Its four parts stand where the limiter, the level of the speech, the protector and the controller
+// stand on the desk, so each of them can be handed in by its own name as well.
 //
 //   chain.new SETTINGS THRESHOLD SAMPLES  five settings, as speech.new has them
+//   chain.set STATE                       the chain with this state: the limiter's, the speech level's, the
+//                                         protector's and the controller's, in this order
 //   chain.step FRAME                      between its two first figures and its samples stand the frame's
 //                                         five: the probability, the rms level, the peak, the noise and
 //                                         the envelope
+//   chain.state                           what each call says that only looks at the chain, and its state
 //
 // Each answer tells whether the chain passes, what the frame was (0 no speech, 1 waiting, 2 publishing), how
-// many frames are missing, the level and the headroom that are published with it; and then, as they stand in
-// the chain, the published level and headroom, whether the level is trusted, and the gain in dB.
+// many frames are missing, the level and the headroom that are published with it; and then what the chain
+// publishes: level and headroom, whether the level is trusted, and the gain in dB, all 0 where the chain fails
+// its test. chain.state shows before these what is shown of each part, in the order above: the parts' own figures,
+// and not what the chain publishes, so that a state that fails its test can be compared as well. It tells besides
+// the reply to `published`, that to `samples`, and the samples.
 
 use crate::controller;
-use crate::desk::ASKED;
-use crate::desk::Reply;
-use crate::desk::TOLD;
 use crate::figures;
+use crate::figures::ASKED;
 use crate::figures::Desk;
 use crate::figures::Given;
+use crate::figures::Reply;
+use crate::figures::TOLD;
 use crate::limits;
+use crate::lines;
+use crate::lines::Asked;
+use crate::lines::Wanted;
 use crate::numbers;
 use crate::protector;
 use crate::speech;
@@ -27,21 +36,54 @@ use chain::Made;
 use chain::Next;
 use units::figures::Figures;
 use units::kinds::Dbfs;
+use units::replies::DONE;
 
-// How many results there are.
+// The part's number, how many figures its state has, and where the desk ends: the chain has no figures of its own
+// there.
+pub const PART: u32 = controller::PART + 1;
+
+const STATE: usize = CONTROLLER + controller::STATE;
+
+pub const END: usize = controller::END;
+
+// Where the figures of the parts stand in a question that hands a state in: the limiter's are the first.
+const SPEECH: usize = ASKED + limits::STATE;
+
+const PROTECTOR: usize = SPEECH + speech::STATE;
+
+const CONTROLLER: usize = PROTECTOR + protector::STATE;
+
+// How many figures are shown of the four parts, which stand one after the other on the desk.
+const SHOWN: usize = END - limits::FROM;
+
+// How many results there are, and how many with those of the calls that look at the chain.
 const RESULTS: usize = 9;
+
+const LOOKS: usize = RESULTS + 3;
 
 // Where the question has the frame's figures.
 const KNOWN: usize = 2;
 
-// The words, by their numbers in the list of src/desk.rt.
-pub const FIRST: u32 = 35;
+// The names, each by its letter in the table below.
+const NEW: u8 = b'n';
 
-const NEW: u32 = 35;
+const SET: u8 = b's';
 
-pub const STEP: u32 = 36;
+const STEP: u8 = b'f';
 
-pub const LAST: u32 = 37;
+const LOOK: u8 = b'l';
+
+// What a line asks of this part, and what was found before where it asks nothing of it.
+pub(crate) fn wanted(line: &[u8], asked: Asked, found: Wanted) -> Wanted {
+    lines::seek(
+        line,
+        asked,
+        found,
+        PART,
+        STATE,
+        b"n7=chain.new s*=chain.set f7+chain.step l0=chain.state ",
+    )
+}
 
 // A frame's figures, which stand at a place.
 fn metered(all: &Desk, from: usize) -> Figures {
@@ -54,13 +96,13 @@ fn metered(all: &Desk, from: usize) -> Figures {
     }
 }
 
-// The chain whose parts' figures stand on the desk.
-fn read(desk: &Desk) -> Chain {
+// The chain whose parts' figures stand on the desk, or the one that the question hands in.
+fn read(desk: &Desk, given: bool) -> Chain {
     Chain {
-        estimator: speech::read(desk, speech::FROM),
-        protector: protector::read(desk, protector::FROM),
-        controller: controller::read(desk, controller::FROM),
-        limiter: limits::read(desk, limits::FROM),
+        estimator: speech::read(desk, numbers::pick(given, SPEECH, speech::FROM)),
+        protector: protector::read(desk, numbers::pick(given, PROTECTOR, protector::FROM)),
+        controller: controller::read(desk, numbers::pick(given, CONTROLLER, controller::FROM)),
+        limiter: limits::read(desk, numbers::pick(given, ASKED, limits::FROM)),
     }
 }
 
@@ -96,24 +138,30 @@ fn case_of(answer: Answer) -> Case {
     }
 }
 
-// The results: those of the case, and what stands in the chain.
-fn told(answer: Answer, chain: Chain) -> [u32; 9] {
+// The results: those of the case, and what the chain publishes; and what the calls say that look at it.
+fn told(answer: Answer, chain: Chain) -> [u32; LOOKS] {
     let now = case_of(answer);
+    let heard = chain.published();
+    let published = heard.published;
+    let size = chain.samples();
     [
         numbers::flag(chain.passes()),
         now.number,
         now.missing,
         now.level,
         now.headroom,
-        bits::bits_of(chain.estimator.level),
-        bits::bits_of(chain.protector.headroom),
-        numbers::flag(chain.estimator.confident),
-        bits::bits_of(chain.controller.gain),
+        bits::bits_of(published.level.0),
+        bits::bits_of(published.headroom.0),
+        numbers::flag(published.confident),
+        bits::bits_of(published.gain.0),
+        heard.reply,
+        size.reply,
+        numbers::narrow(size.samples),
     ]
 }
 
 // Leaves the figures of a chain's parts on the desk.
-fn stand(desk: &mut Desk, chain: Chain) {
+fn leave(desk: &mut Desk, chain: Chain) {
     speech::leave(desk, chain.estimator);
     protector::leave(desk, chain.protector);
     controller::leave(desk, chain.controller);
@@ -131,29 +179,35 @@ fn started(a: Made) -> Next {
 }
 
 // The reply to the question that lies on the desk, its answer, and the chain after it.
-fn next(word: u32, given: Given, desk: &Desk, frame: &mut [f32]) -> Next {
+fn next(word: u8, given: Given, desk: &Desk, frame: &mut [f32]) -> Next {
     if word == NEW {
-        let threshold = figures::word(desk, ASKED, 5);
-        let samples = figures::count(desk, ASKED, 6);
+        let threshold = figures::word(desk, ASKED, speech::SETTINGS);
+        let samples = figures::count(desk, ASKED, speech::SETTINGS + 1);
         started(Chain::new(speech::settings(desk, ASKED), threshold, samples))
-    } else {
+    } else if word == STEP {
         let known = metered(desk, KNOWN);
         let channels = figures::wide(given.first);
-        read(desk).step(known, frame, channels, figures::wide(given.second))
+        read(desk, false).step(known, frame, channels, figures::wide(given.second))
+    } else {
+        Next {
+            reply: DONE,
+            answer: Answer::NonSpeech,
+            chain: read(desk, word == SET),
+        }
     }
 }
 
 // Answers the question that lies on the desk.
-pub(crate) fn answer(word: u32, given: Given, desk: &mut Desk, frame: &mut [f32]) -> Reply {
+pub(crate) fn answer(word: u8, given: Given, desk: &mut Desk, frame: &mut [f32]) -> Reply {
     let a = next(word, given, desk, frame);
     let answer = a.answer;
     let results = told(answer, a.chain);
     figures::put(desk, TOLD, &results);
-    stand(desk, a.chain);
+    leave(desk, a.chain);
     Reply {
         number: a.reply,
-        from: 0,
-        size: 0,
-        told: RESULTS,
+        from: limits::FROM,
+        size: numbers::pick(word == LOOK, SHOWN, 0),
+        told: numbers::pick(word == LOOK, LOOKS, RESULTS),
     }
 }

@@ -4,12 +4,20 @@
 //
 // The memory is fixed: a strip of any length goes through.
 
+ghost use Prim.Native.Nat.{_≤_};
 ghost use Rattle.io.specs.Counts.{Counts};
+ghost use lib.ListN.{length};
 use strip_run::Run;
 use units::replies::DONE;
 
 // So many bytes are read at a time: the lines of as many records have room in 65,536 bytes.
 const BLOCK: usize = 512;
+
+// How many bytes of a block were read, none at the input's end, and whether the read went well.
+struct Filled {
+    n: usize,
+    well: bool,
+}
 
 // As many bytes of a buffer as asked, and never more than it has.
 fn within(n: usize, buffer: &[u8]) -> usize
@@ -18,45 +26,31 @@ fn within(n: usize, buffer: &[u8]) -> usize
     if n <= buffer.len() { n } else { buffer.len() }
 }
 
-// What a turn came to: the run, and whether it goes on.
-struct Turn {
-    run: Run,
-    more: bool,
+// Reads a block. A read that fails is told.
+fn read_block(block: &mut [u8]) -> Filled {
+    let got = libc::read(libc::STDIN_FILENO, block);
+    let n = io::count(got, block);
+    if got < 0 {
+        os::fail(b"strip: standard input");
+    }
+    Filled {
+        n,
+        well: 0 <= got,
+    }
 }
 
-// Writes the lines of a block, and goes on with the run.
-fn print(run: Run, length: usize, out: &[u8]) -> Turn {
+// Writes the lines of a block, and answers whether that went well. Where not, it is told.
+fn write(out: &[u8], length: usize, reply: u32) -> bool {
+    if reply != DONE {
+        io::write_all(libc::STDERR_FILENO, b"strip: the lines do not fit\n");
+        return false;
+    }
     let n = within(length, out);
     let written = io::write_all(libc::STDOUT_FILENO, &out[..n]);
     if !written {
         os::fail(b"strip: standard output");
     }
-    let desk = run.desk;
-    Turn {
-        run,
-        more: desk.more & written,
-    }
-}
-
-// Reads a block, takes it and writes its lines. At the input's end nothing is read, which ends the run.
-fn take_turn(run: Run, block: &mut [u8], out: &mut [u8]) -> Turn {
-    let got = libc::read(libc::STDIN_FILENO, block);
-    if got < 0 {
-        os::fail(b"strip: standard input");
-        return Turn { run, more: false };
-    }
-    let n = io::count(got, block);
-    let taken = run.take(&block[..n], out);
-    let next = taken.run;
-    if taken.reply == DONE {
-        print(next, taken.length, out)
-    } else {
-        io::write_all(libc::STDERR_FILENO, b"strip: the lines do not fit\n");
-        Turn {
-            run: next,
-            more: false,
-        }
-    }
+    written
 }
 
 // Takes the blocks one after the other. A proved loop has to end, so it counts its turns down, from a number that no
@@ -64,11 +58,20 @@ fn take_turn(run: Run, block: &mut [u8], out: &mut [u8]) -> Turn {
 fn main() {
     let mut block = [0u8; BLOCK];
     let mut out = io::large_buffer();
-    let run = Run::new();
-    let mut now = Turn { run, more: true };
+    let mut run = Run::new();
+    let mut more = true;
     let mut turns = u64::MAX;
-    while (turns > 0) & now.more {
-        now = take_turn(now.run, &mut block, &mut out);
+    while (turns > 0) & more {
+        let filled = read_block(&mut block);
+        let n = within(filled.n, &block);
+        if filled.well {
+            let taken = run.take(&block[..n], &mut out);
+            let written = write(&out, taken.length, taken.reply);
+            run = taken.run;
+            more = written & run.desk.more;
+        } else {
+            more = false;
+        }
         turns -= 1;
     }
 }
