@@ -9,9 +9,11 @@ use Rattle.frames.specs.Shape.{isShape}
 use Rattle.frames.specs.Samples.{largestInput, allWithin}
 use Rattle.runs.specs.Runs.{speech}
 use Rattle.units.specs.Figures.{accepted}
-use Rattle.chain.specs.Calls.{Stepped, stepped, Called, called}
-use Rattle.chain.specs.declared.Chain.{Chain}
 use Rattle.units.specs.declared.figures.Figures.{Figures}
+use Rattle.chain.specs.Chain.{published}
+use Rattle.chain.specs.Calls.{called}
+use Rattle.chain.specs.declared.Chain.{Chain}
+use Rattle.chain.specs.declared.Published.{Published}
 
 -- a frame of sound: the lent buffer, its channels and their samples
 pub record Sound : Type 0 where
@@ -23,31 +25,28 @@ pub record Sound : Type 0 where
 pub data Event : Type 0 where
   frame : Figures → Sound → Event
 
-abbrev pub figuresOf : Event → Figures
-figuresOf (frame f s) = f
+-- whether an event is a speech frame: "probability against 0.95"
+unfoldable pub isSpeech : Event → Bool
+isSpeech (frame f s) = speech (f .probability)
 
-abbrev pub soundOf : Event → Sound
-soundOf (frame f s) = s
-
--- the step of an event, where it is not refused
-unfoldable pub stepOf : Chain → Event → Stepped
-unfolding stepped
-stepOf c (frame f s) = stepped c f (s .buffer) (s .channels) (s .samples)
-
--- an event that a chain of so many samples takes: shape, samples, figures and every sample are as they should be
+-- whether a chain of n samples takes an event: shape, samples, figures and every sample are as they should be
 unfoldable pub takes : ℕ → Event → Bool
 unfolding isShape accepted allWithin
 takes n (frame f s) = isShape (s .channels) (s .samples) (length (s .buffer)) && eqb (s .samples) n && accepted f && allWithin largestInput (s .buffer)
 
--- the call that an event makes
-unfoldable pub callOf : Chain → Event → Called
-unfolding called
-callOf c (frame f s) = called c f (s .buffer) (s .channels) (s .samples)
-
--- the chain after an event: "a refused call changes nothing"
+-- the chain after the call that an event makes: "a refused call changes nothing"
 unfoldable pub next : Chain → Event → Chain
-unfolding callOf
-next c e = callOf c e .told .chain
+unfolding called
+next c (frame f s) = called c f (s .buffer) (s .channels) (s .samples) .told .chain
+
+-- what comes out at an event: what the chain publishes after it, and the frame of sound
+pub record Out : Type 0 where
+  pub figures : Published
+  pub sound : List Float
+
+unfoldable pub out : Chain → Event → Out
+unfolding called next
+out c (frame f s) = record { figures = published (next c (frame f s)); sound = called c f (s .buffer) (s .channels) (s .samples) .frame }
 
 -- the chain after a history
 unfoldable pub after : Chain → List Event → Chain
@@ -55,34 +54,17 @@ unfolding next
 after c [] = c
 after c (e ∷ es) = after (next c e) es
 
--- what is published after a frame, and the frame as it comes out
-pub record Published : Type 0 where
-  pub level : Float
-  pub headroom : Float
-  pub confident : Bool
-  pub gain : Float
-  pub sound : List Float
+-- what comes out at each event of a history
+unfoldable pub outputs : Chain → List Event → List Out
+unfolding out next
+outputs c [] = []
+outputs c (e ∷ es) = out c e ∷ outputs (next c e) es
 
-unfoldable pub publishedBy : Chain → Event → Published
-unfolding callOf next
-publishedBy c e =
-    record {
-      level = next c e .estimator .level;
-      headroom = next c e .protector .headroom;
-      confident = next c e .estimator .confident;
-      gain = next c e .controller .gain;
-      sound = callOf c e .frame;
-    }
-
--- of each event of a history
-unfoldable pub published : Chain → List Event → List Published
-unfolding publishedBy next
-published c [] = []
-published c (e ∷ es) = publishedBy c e ∷ published (next c e) es
-
--- whether an event is a speech frame: "probability against 0.95"
-unfoldable pub isSpeech : Event → Bool
-isSpeech e = speech (figuresOf e .probability)
+-- what comes out at the events that a chain of n samples takes: a refused call hands out nothing
+unfoldable pub outputsTaken : ℕ → Chain → List Event → List Out
+unfolding out next takes
+outputsTaken n c [] = []
+outputsTaken n c (e ∷ es) = cond (takes n e) (out c e ∷ outputsTaken n (next c e) es) (outputsTaken n (next c e) es)
 
 -- the events of a history that a chain of n samples takes: "a history is that of the accepted calls"
 unfoldable pub onlyTaken : ℕ → List Event → List Event

@@ -7,4 +7,5 @@ pub mod Calls
 pub mod Agree
 pub mod Weighted
 pub mod Start
+pub mod Ends
 pub mod Theorems

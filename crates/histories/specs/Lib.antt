@@ -1,6 +1,6 @@
 -- The chain over histories: what they are, which frames of them count, and the theorems on them.
 pub mod Histories
-pub mod Accepted
+pub mod Held
 pub mod Changes
 pub mod Average
 pub mod Laws

@@ -1,12 +1,10 @@
--- What every chain from a new one on keeps, whatever frames come: the counts of its parts go by the run of speech frames alone. Laws.
+-- What every chain from a new one on keeps, whatever events come: the counts of its parts go by the run of speech frames alone. Laws.
 -- Assumes nothing.
 use mathlib.Core.Path.{_≡_, refl, sym, ap, _∙_}
 use mathlib.Core.Bool.{Bool, true, false, cond}
-use mathlib.Core.List.{List}
 use Prim.Native.Nat.{ℕ, _+_, _-_, _<_}
 use native.Mathlib.Omega.{arith}
 use lib.Dec.{ltb}
-use lib.Ieee.{Float}
 use borrow.Author.Tests.{ltb-true, ltb-false}
 use Rattle.units.specs.declared.settings.Settings.{Settings}
 use Rattle.runs.specs.Runs.{speech, longer}
@@ -24,9 +22,10 @@ use Rattle.adaptive_digital_gain_controller.specs.Calls.{with-applier}
 use Rattle.adaptive_digital_gain_controller.specs.Laws.Waiting.{closed-waits-again}
 use Rattle.chain.specs.Calls.{informed, stepped, fresh}
 use Rattle.chain.specs.declared.Chain.{Chain}
-use Rattle.units.specs.declared.figures.Figures.{Figures}
+use Rattle.chain.specs.Laws.Steps.{heard}
+use Rattle.histories.specs.Histories.{Event, frame, isSpeech}
 use Rattle.histories.specs.Laws.Parts.{shownLevel, shownHeadroom, headroomOf}
-use Rattle.histories.specs.Laws.Steps.{Beside, updated-count, analyzed-count}
+use Rattle.histories.specs.Laws.Steps.{stepOf, Beside, updated-count, analyzed-count}
 
 -- its parts have one threshold, and where no run is open their two states are alike
 pub record Ground (t : ℕ) (c : Chain) : Type 0 where
@@ -61,34 +60,34 @@ new-good s t samples some =
       waiting = sym (omega (arith, held-below t 0 some));
     }
 
--- ---- a frame
-module _ (t : ℕ) (c : Chain) (two : 1 < t) (h : Ground t c) (f : Figures) (buffer : List Float) (channels samples : ℕ) where
-  pub step-ground : Ground t (stepped c f buffer channels samples .chain)
-  unfolding stepped Level.updated Headroom.analyzed Gain.decided with-applier
-  step-ground =
+-- ---- an event
+module _ (t : ℕ) (c : Chain) (two : 1 < t) (h : Ground t c) where
+  step-ground : (e : Event) → Ground t (stepOf c e .chain)
+  unfolding stepOf stepped Level.updated Headroom.analyzed Gain.decided with-applier
+  step-ground (frame f s) =
       record {
         level = h .level;
         headroom = h .headroom;
         gain = h .gain;
         level-settled = framed-settled (c .estimator .threshold) (speech (f .probability)) (Average.advanced (f .rms .0) (f .probability)) (Level.run (c .estimator)) (rw (h .level) two) (h .level-settled);
-        headroom-settled = framed-settled (c .protector .threshold) (speech (f .probability)) (Peaks.advanced (f .peak .0) (Level.updated (c .estimator) (f .rms .0) (f .probability) .level)) (Headroom.run (c .protector)) (rw (h .headroom) two) (h .headroom-settled);
+        headroom-settled = framed-settled (c .protector .threshold) (speech (f .probability)) (Peaks.advanced (f .peak .0) (heard c f .level)) (Headroom.run (c .protector)) (rw (h .headroom) two) (h .headroom-settled);
       }
 
-  pub level-counts : stepped c f buffer channels samples .chain .estimator .count ≡ cond (speech (f .probability)) (longer t (c .estimator .count)) 0
-  unfolding stepped
-  level-counts = updated-count (c .estimator) (f .rms .0) (f .probability) ∙ ap (λ (z : ℕ). cond (speech (f .probability)) (longer z (c .estimator .count)) 0) (h .level)
+  level-counts : (e : Event) → stepOf c e .chain .estimator .count ≡ cond (isSpeech e) (longer t (c .estimator .count)) 0
+  unfolding stepOf stepped isSpeech
+  level-counts (frame f s) = updated-count (c .estimator) (f .rms .0) (f .probability) ∙ ap (λ (z : ℕ). cond (speech (f .probability)) (longer z (c .estimator .count)) 0) (h .level)
 
-  pub headroom-counts : stepped c f buffer channels samples .chain .protector .count ≡ cond (speech (f .probability)) (longer t (c .protector .count)) 0
-  unfolding stepped
-  headroom-counts =
-      analyzed-count (c .protector) (f .probability) (f .peak .0) (Level.updated (c .estimator) (f .rms .0) (f .probability) .level)
+  headroom-counts : (e : Event) → stepOf c e .chain .protector .count ≡ cond (isSpeech e) (longer t (c .protector .count)) 0
+  unfolding stepOf stepped isSpeech
+  headroom-counts (frame f s) =
+      analyzed-count (c .protector) (f .probability) (f .peak .0) (heard c f .level)
       ∙ ap (λ (z : ℕ). cond (speech (f .probability)) (longer z (c .protector .count)) 0) (h .headroom)
 
-  pub gain-waits : stepped c f buffer channels samples .chain .controller .waiting ≡ waits (speech (f .probability)) t (c .controller .waiting)
-  unfolding stepped Gain.decided with-applier informed
-  gain-waits = ap (λ (z : ℕ). waits (speech (f .probability)) z (c .controller .waiting)) (h .gain)
+  gain-waits : (e : Event) → stepOf c e .chain .controller .waiting ≡ waits (isSpeech e) t (c .controller .waiting)
+  unfolding stepOf stepped isSpeech Gain.decided with-applier informed
+  gain-waits (frame f s) = ap (λ (z : ℕ). waits (speech (f .probability)) z (c .controller .waiting)) (h .gain)
 
--- the count of a run after a frame
+-- the count of a run after an event
 abbrev pub run-after : Bool → ℕ → ℕ
 run-after speech k = cond speech (k + 1) 0
 
@@ -109,29 +108,27 @@ waits-on true t k some = go (ltb k t) refl
     go true e = let h = ltb-true k t e in rw (held-below t k h) (last (ltb (k + 1) t) refl h)
     go false e = let h = ltb-false k t e in omega (arith, held-at t k h, held-at t (k + 1) (omega (arith, h)))
 
--- A frame leaves a chain so, behind one speech frame more, or behind none.
-pub step-good : (t k : ℕ) (c : Chain) → 1 < t → Good t k c → (f : Figures) (buffer : List Float) (channels samples : ℕ)
-    → Good t (run-after (speech (f .probability)) k) (stepped c f buffer channels samples .chain)
-step-good t k c two h f buffer channels samples =
+-- An event leaves a chain so, behind one speech frame more, or behind none.
+pub step-good : (t k : ℕ) (c : Chain) → 1 < t → Good t k c → (e : Event) → Good t (run-after (isSpeech e) k) (stepOf c e .chain)
+step-good t k c two h e =
     let some : 0 < t = omega (arith, two) in
-    let b = speech (f .probability) in
+    let b = isSpeech e in
     record {
-      ground = step-ground t c two (h .ground) f buffer channels samples;
-      level-count = level-counts t c two (h .ground) f buffer channels samples ∙ ap (λ (z : ℕ). cond b (longer t z) 0) (h .level-count) ∙ counts-on b t k some;
-      headroom-count = headroom-counts t c two (h .ground) f buffer channels samples ∙ ap (λ (z : ℕ). cond b (longer t z) 0) (h .headroom-count) ∙ counts-on b t k some;
-      waiting = gain-waits t c two (h .ground) f buffer channels samples ∙ ap (λ (z : ℕ). waits b t z) (h .waiting) ∙ waits-on b t k some;
+      ground = step-ground t c two (h .ground) e;
+      level-count = level-counts t c two (h .ground) e ∙ ap (λ (z : ℕ). cond b (longer t z) 0) (h .level-count) ∙ counts-on b t k some;
+      headroom-count = headroom-counts t c two (h .ground) e ∙ ap (λ (z : ℕ). cond b (longer t z) 0) (h .headroom-count) ∙ counts-on b t k some;
+      waiting = gain-waits t c two (h .ground) e ∙ ap (λ (z : ℕ). waits b t z) (h .waiting) ∙ waits-on b t k some;
     }
 
--- After a non-speech frame no run is open, whatever the counts were.
-pub closed-good : (t : ℕ) (c : Chain) → 1 < t → Ground t c → (f : Figures) (buffer : List Float) (channels samples : ℕ) → speech (f .probability) ≡ false
-    → Good t 0 (stepped c f buffer channels samples .chain)
-closed-good t c two h f buffer channels samples silent =
+-- After a non-speech event no run is open, whatever the counts were.
+pub closed-good : (t : ℕ) (c : Chain) → 1 < t → Ground t c → (e : Event) → isSpeech e ≡ false → Good t 0 (stepOf c e .chain)
+closed-good t c two h e silent =
     let zero : 0 ≡ held t 0 = sym (held-below t 0 (omega (arith, two))) in
     record {
-      ground = step-ground t c two h f buffer channels samples;
-      level-count = level-counts t c two h f buffer channels samples ∙ rw silent zero;
-      headroom-count = headroom-counts t c two h f buffer channels samples ∙ rw silent zero;
-      waiting = gain-waits t c two h f buffer channels samples ∙ closed-waits-again (speech (f .probability)) t (c .controller .waiting) silent ∙ omega (arith, zero);
+      ground = step-ground t c two h e;
+      level-count = level-counts t c two h e ∙ rw silent zero;
+      headroom-count = headroom-counts t c two h e ∙ rw silent zero;
+      waiting = gain-waits t c two h e ∙ closed-waits-again (isSpeech e) t (c .controller .waiting) silent ∙ omega (arith, zero);
     }
 
 -- A chain behind a run below the threshold is beside itself.

@@ -2,13 +2,13 @@
 -- Assumes nothing.
 use mathlib.Core.Path.{_≡_, refl, sym, ap, _∙_}
 use mathlib.Core.Bool.{Bool, true, false, _||_}
-use Prim.Native.Nat.{ℕ, _+_, _-_, _≤_, _<_}
+use Prim.Native.Nat.{ℕ, _+_, _≤_, _<_}
 use native.Mathlib.Omega.{arith}
 use lib.Dec.{eqb}
 use lib.Ieee.{Float, binary32, add}
 use borrow.Author.Tests.{lt-leb, ne-eqb}
 use Rattle.units.specs.declared.settings.Settings.{Settings}
-use Rattle.runs.specs.Runs.{speech, published}
+use Rattle.runs.specs.Runs.{speech}
 use Rattle.runs.specs.Histories.{Frame, Shown, showing}
 use Rattle.runs.specs.Laws.Near.{Near, near-stays, near-closed}
 use Rattle.speech_level_estimator.specs.Average as Average
