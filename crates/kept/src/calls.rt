@@ -110,16 +110,16 @@ pub fn limit_frame(
 {
     if kept.is_sound() {
         let limiter = kept.limiter();
-        let next = limiter.process(frame, channels, samples);
-        if next.reply == DONE {
-            let after = next.limiter;
+        let limited = limiter.process(frame, channels, samples);
+        if limited.reply == DONE {
+            let after = limited.limiter;
             NewLimiter {
                 reply: DONE,
                 limiter: KeptLimiter::of(after),
             }
         } else {
             NewLimiter {
-                reply: next.reply,
+                reply: limited.reply,
                 limiter: kept,
             }
         }
