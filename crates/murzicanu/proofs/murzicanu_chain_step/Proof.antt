@@ -184,7 +184,7 @@ module _ {M : Type 1} (𝓤 : URA M) (H : Heap 𝓤) (A : Atoms 𝓤) (W : Given
         closes-whole ! tt answer (r .answer) (next-chain-has r is .1) (z .ptr .0) (z .ptr .1) $
         -- [the last answer; its token; the frame's token; the last frame; the figures' token; the chain's cell; its open borrow; obs; auth; true; _12; …; _0; …]: where the reply is 0, the chain is stored
         assigns ! (bin ! (load ! (from ! (fld ! next-chain-reply (stop !))) (next-chain-in ! 16 r 0 next-chain-reply refl)) (lit ! tt) tt) (from ! (stop !)) (init ! 10 refl (tt, tt)) $
-        stores-if ! chain Left 5 (x .now) (r .chain) (load ! (from ! (stop !)) (look ! 10 refl)) (of-opd ! (load ! (from ! (fld ! next-chain-chain (stop !))) (next-chain-in ! 16 r 2 next-chain-chain refl))) (from ! (hop ! (look ! 32 refl) (stop !))) refl
+        stores-if ! (chain .val) Left 5 (x .now) (r .chain) (load ! (from ! (stop !)) (look ! 10 refl)) (of-opd ! (load ! (from ! (fld ! next-chain-chain (stop !))) (next-chain-in ! 16 r 2 next-chain-chain refl))) (from ! (hop ! (look ! 32 refl) (stop !))) refl
         (typed W chain (r .chain) (next-chain-has r is .2) .0) refl (λ _. new-left r e₁ is) (old-left r e₁ was) (λ d k.
         assigns ! (of-opd ! (load ! (from ! (fld ! next-chain-reply (stop !))) (next-chain-in ! 16 r 0 next-chain-reply refl))) (from ! (stop !)) (init ! 34 refl (tt, record { fits = next-chain-has r is .0 })) $
         move ! (5 ∷ 6 ∷ 7 ∷ 8 ∷ []) $ closes-whole ! tt chain d (k .is) (x .ptr .0) (x .ptr .1) $

@@ -153,7 +153,7 @@ module _ {M : Type 1} (𝓤 : URA M) (H : Heap 𝓤) (A : Atoms 𝓤) (W : Given
         -- [what the answer owns; the frame's token; the last frame; the limiter's cell; the open borrow; obs; auth; what the numbers own; _9; …; _0; …]: the answer lands, and where its reply is 0 its limiter is stored
         answers ! new-limiter r (λ is. land ! (from ! (stop !)) (init ! 13 refl (typed W new-limiter r is .0)) $
         assigns ! (bin ! (load ! (from ! (fld ! refl (stop !))) (look-in ! 13 (sub ! 0 refl (whole !)))) (lit ! tt) tt) (from ! (stop !)) (init ! 7 refl (tt, tt)) $
-        stores-if ! limiter Left 2 (x .now) (r .limiter) (load ! (from ! (stop !)) (look ! 7 refl)) (of-opd ! (load ! (from ! (fld ! refl (stop !))) (look-in ! 13 (sub ! 1 refl (whole !))))) (from ! (hop ! (look ! 23 refl) (stop !))) refl
+        stores-if ! (limiter .val) Left 2 (x .now) (r .limiter) (load ! (from ! (stop !)) (look ! 7 refl)) (of-opd ! (load ! (from ! (fld ! refl (stop !))) (look-in ! 13 (sub ! 1 refl (whole !))))) (from ! (hop ! (look ! 23 refl) (stop !))) refl
         (typed W limiter (r .limiter) (new-limiter-has r is .1) .0) refl (λ _. new-left r e₁ is) (old-left r e₁ was) (λ d k.
         assigns ! (of-opd ! (load ! (from ! (fld ! refl (stop !))) (look-in ! 13 (sub ! 0 refl (whole !))))) (from ! (stop !)) (init ! 25 refl (tt, record { fits = new-limiter-has r is .0 })) $
         move ! (2 ∷ 3 ∷ 4 ∷ 5 ∷ []) $ closes-whole ! tt limiter d (k .is) (x .ptr .0) (x .ptr .1) $
