@@ -9,6 +9,10 @@
 #define SAMPLES 480
 
 int main(void) {
+    if (murzicanu_version() != MURZICANU_VERSION) {
+        fprintf(stderr, "the archive has version %u, and the header %u\n", murzicanu_version(), MURZICANU_VERSION);
+        return 1;
+    }
     murzicanu_settings settings = MURZICANU_USUAL_SETTINGS;
     murzicanu_chain chain;
     uint32_t reply = murzicanu_chain_new(&chain, &settings, MURZICANU_USUAL_THRESHOLD, SAMPLES);

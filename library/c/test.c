@@ -70,10 +70,239 @@ static void service(const char *strip, const char *lines) {
 
 static int unchanged(const void *a, const void *b, size_t n) { return memcmp(a, b, n) == 0; }
 
+static int all_0(const void *at, size_t n) {
+    const unsigned char *bytes = at;
+    int good = 1;
+    for (size_t i = 0; i < n; i++)
+        good = good && bytes[i] == 0;
+    return good;
+}
+
+/* A random number, the same in every run: xorshift. */
+static uint32_t drawn(void) {
+    static uint32_t x = 2463534242u;
+    x ^= x << 13;
+    x ^= x >> 17;
+    x ^= x << 5;
+    return x;
+}
+
+enum { SAMPLES = 160, CHANNELS = 2, LENGTH = CHANNELS * SAMPLES };
+
+static const murzicanu_figures SPEECH = {0.95f, -20.0f, -12.0f, -80.0f, -60.0f};
+
+static void tone(float *frame, int k) {
+    for (int i = 0; i < LENGTH; i++)
+        frame[i] = 20000.0f * sinf((float)(i % SAMPLES + SAMPLES * k) * 0.05f * (float)(1 + i / SAMPLES));
+}
+
+/* What a call may write over is first filled with a pattern. Where a call is refused, every byte of the state and of
+ * the frame has to be the one that was there, and every byte of the answer 0. */
+static int chain_refused(murzicanu_chain *chain, const murzicanu_figures *figures, float *frame, size_t length,
+                         size_t channels, size_t samples, uint32_t *reply) {
+    murzicanu_chain before;
+    float sound[LENGTH];
+    murzicanu_answer answer;
+    memcpy(&before, chain, sizeof before);
+    memcpy(sound, frame, sizeof sound);
+    memset(&answer, 0xAA, sizeof answer);
+    *reply = murzicanu_chain_step(chain, figures, frame, length, channels, samples, &answer);
+    return *reply != MURZICANU_DONE && unchanged(chain, &before, sizeof before) &&
+           unchanged(frame, sound, sizeof sound) && all_0(&answer, sizeof answer);
+}
+
+static int limiter_refused(murzicanu_limiter *limiter, float *frame, size_t length, size_t channels, size_t samples,
+                           uint32_t *reply) {
+    murzicanu_limiter before;
+    float sound[LENGTH];
+    memcpy(&before, limiter, sizeof before);
+    memcpy(sound, frame, sizeof sound);
+    *reply = murzicanu_limiter_step(limiter, frame, length, channels, samples);
+    return *reply != MURZICANU_DONE && unchanged(limiter, &before, sizeof before) &&
+           unchanged(frame, sound, sizeof sound);
+}
+
+/* A chain and a limiter that were made over a pattern and have heard some frames. */
+static int made(murzicanu_chain *chain, murzicanu_limiter *limiter, int pattern, int frames) {
+    murzicanu_settings settings = MURZICANU_USUAL_SETTINGS;
+    memset(chain, pattern, sizeof *chain);
+    memset(limiter, pattern, sizeof *limiter);
+    int good = murzicanu_chain_new(chain, &settings, 12, SAMPLES) == MURZICANU_DONE &&
+               murzicanu_limiter_new(limiter, SAMPLES) == MURZICANU_DONE;
+    for (int k = 0; k < frames; k++) {
+        float frame[LENGTH];
+        murzicanu_answer answer;
+        tone(frame, k);
+        good = good && murzicanu_chain_step(chain, &SPEECH, frame, LENGTH, CHANNELS, SAMPLES, &answer) == MURZICANU_DONE;
+        tone(frame, k);
+        good = good && murzicanu_limiter_step(limiter, frame, LENGTH, CHANNELS, SAMPLES) == MURZICANU_DONE;
+    }
+    return good;
+}
+
+/* Every byte of a state is the same, whatever stood in its memory before. */
+static void determined(void) {
+    murzicanu_settings settings = MURZICANU_USUAL_SETTINGS, wrong = settings;
+    murzicanu_chain a, b;
+    murzicanu_limiter c, d;
+    int same = 1;
+    for (int frames = 0; frames <= 100; frames += 50)
+        same = same && made(&a, &c, 0xAA, frames) && made(&b, &d, 0x55, frames) && unchanged(&a, &b, sizeof a) &&
+               unchanged(&c, &d, sizeof c);
+    check(same, "every byte of a chain and a limiter is determined, new and after 50 and 100 frames");
+    murzicanu_published now, later;
+    float level, after;
+    memset(&now, 0xAA, sizeof now);
+    memset(&later, 0x55, sizeof later);
+    memset(&level, 0xAA, sizeof level);
+    memset(&after, 0x55, sizeof after);
+    check(murzicanu_chain_read(&a, &now) == MURZICANU_DONE && murzicanu_chain_read(&a, &later) == MURZICANU_DONE &&
+              unchanged(&now, &later, sizeof now) && murzicanu_limiter_read(&c, &level) == MURZICANU_DONE &&
+              murzicanu_limiter_read(&c, &after) == MURZICANU_DONE && unchanged(&level, &after, sizeof level),
+          "and so is every byte of what is read");
+    check(unchanged(&a, &b, sizeof a) && unchanged(&c, &d, sizeof c), "and reading changes no byte of them");
+    wrong.noise = -0.0f;
+    memset(&a, 0xAA, sizeof a);
+    int none = murzicanu_chain_new(&a, &settings, 12, 441) == MURZICANU_SHAPE && all_0(&a, sizeof a);
+    memset(&a, 0xAA, sizeof a);
+    none = none && murzicanu_chain_new(&a, &wrong, 12, SAMPLES) == MURZICANU_SETTING && all_0(&a, sizeof a);
+    memset(&a, 0xAA, sizeof a);
+    none = none && murzicanu_chain_new(&a, &settings, 0, SAMPLES) == MURZICANU_SETTING && all_0(&a, sizeof a);
+    memset(&c, 0xAA, sizeof c);
+    none = none && murzicanu_limiter_new(&c, 500) == MURZICANU_SHAPE && all_0(&c, sizeof c);
+    check(none, "every byte of a chain and a limiter that are refused as new is 0");
+}
+
+/* Each kind of refusal, byte for byte. */
+static void refused(void) {
+    murzicanu_chain chain, other;
+    murzicanu_limiter limiter, bad;
+    murzicanu_figures figures = SPEECH;
+    murzicanu_published now;
+    float frame[LENGTH], level;
+    uint32_t reply;
+    check(made(&chain, &limiter, 0xAA, 20), "a chain and a limiter over memory filled with 0xAA");
+    tone(frame, 20);
+    check(chain_refused(&chain, &SPEECH, frame, LENGTH, 3, SAMPLES, &reply) && reply == MURZICANU_SHAPE,
+          "a chain's refusal with 1 changes no byte");
+    figures.peak = NAN;
+    check(chain_refused(&chain, &figures, frame, LENGTH, CHANNELS, SAMPLES, &reply) && reply == MURZICANU_FIGURE,
+          "a chain's refusal with 2 changes no byte");
+    frame[LENGTH - 1] = 70000.0f;
+    check(chain_refused(&chain, &SPEECH, frame, LENGTH, CHANNELS, SAMPLES, &reply) && reply == MURZICANU_SAMPLE,
+          "a chain's refusal with 3 changes no byte");
+    tone(frame, 20);
+    memcpy(&other, &chain, sizeof other);
+    other.protector.reliable.ring.place = 4;
+    int good = chain_refused(&other, &SPEECH, frame, LENGTH, CHANNELS, SAMPLES, &reply) && reply == MURZICANU_SETTING;
+    other = chain;
+    other.limiter.estimator.part += 0x10000u;
+    good = good && chain_refused(&other, &SPEECH, frame, LENGTH, CHANNELS, SAMPLES, &reply) && reply == MURZICANU_SETTING;
+    other = chain;
+    other.controller.applier.clip = 0xAAAAAAAAu;
+    good = good && chain_refused(&other, &SPEECH, frame, LENGTH, CHANNELS, SAMPLES, &reply) && reply == MURZICANU_SETTING;
+    check(good, "a chain's refusal with 4 changes no byte");
+    memset(&now, 0xAA, sizeof now);
+    memcpy(&chain, &other, sizeof chain);
+    check(murzicanu_chain_read(&chain, &now) == MURZICANU_SETTING && all_0(&now, sizeof now) &&
+              unchanged(&chain, &other, sizeof chain),
+          "a chain whose reading is refused keeps every byte, and tells 0 in every byte");
+    memset(&chain, 0, sizeof chain);
+    good = chain_refused(&chain, &SPEECH, frame, LENGTH, CHANNELS, SAMPLES, &reply) && reply == MURZICANU_SHAPE;
+    memset(&chain, 0xAA, sizeof chain);
+    good = good && chain_refused(&chain, &SPEECH, frame, LENGTH, CHANNELS, SAMPLES, &reply) && reply == MURZICANU_SHAPE;
+    chain.limiter.estimator.samples = SAMPLES;
+    good = good && chain_refused(&chain, &SPEECH, frame, LENGTH, CHANNELS, SAMPLES, &reply) && reply == MURZICANU_SETTING;
+    check(good, "a chain that was never made is refused with 1 where its samples differ, otherwise with 4");
+
+    check(limiter_refused(&limiter, frame, LENGTH - 1, CHANNELS, SAMPLES, &reply) && reply == MURZICANU_SHAPE,
+          "a limiter's refusal with 1 changes no byte");
+    frame[0] = INFINITY;
+    check(limiter_refused(&limiter, frame, LENGTH, CHANNELS, SAMPLES, &reply) && reply == MURZICANU_SAMPLE,
+          "a limiter's refusal with 3 changes no byte");
+    tone(frame, 20);
+    bad = limiter;
+    bad.carried = 2.0f;
+    good = limiter_refused(&bad, frame, LENGTH, CHANNELS, SAMPLES, &reply) && reply == MURZICANU_SETTING;
+    bad = limiter;
+    bad.curve.available = 0x55555555u;
+    good = good && limiter_refused(&bad, frame, LENGTH, CHANNELS, SAMPLES, &reply) && reply == MURZICANU_SETTING;
+    check(good, "a limiter's refusal with 4 changes no byte");
+    memset(&level, 0xAA, sizeof level);
+    memcpy(&limiter, &bad, sizeof limiter);
+    check(murzicanu_limiter_read(&limiter, &level) == MURZICANU_SETTING && all_0(&level, sizeof level) &&
+              unchanged(&limiter, &bad, sizeof limiter),
+          "a limiter whose reading is refused keeps every byte, and tells 0 in every byte");
+}
+
+/* Ten thousand refused calls of every kind, each with other inputs. */
+static void many(void) {
+    const float wrong[] = {NAN, INFINITY, -INFINITY, 1.0e30f, -151.0f, 101.0f};
+    murzicanu_chain chain, damaged, first;
+    murzicanu_limiter limiter, cracked, second;
+    float frame[LENGTH], sound[LENGTH];
+    int seen[5] = {0}, good = made(&chain, &limiter, 0xAA, 20), calls = 0;
+    memcpy(&first, &chain, sizeof first);
+    memcpy(&second, &limiter, sizeof second);
+    tone(sound, 20);
+    memcpy(frame, sound, sizeof frame);
+    while (good && calls < 10000) {
+        murzicanu_figures figures = SPEECH;
+        float *const fields[] = {&figures.probability, &figures.rms, &figures.peak, &figures.noise, &figures.envelope};
+        size_t length = LENGTH, channels = CHANNELS, samples = SAMPLES, place = drawn() % LENGTH;
+        uint32_t reply = 0, kind = 1 + drawn() % 4, due = kind;
+        memcpy(&damaged, &chain, sizeof damaged);
+        memcpy(&cracked, &limiter, sizeof cracked);
+        if (kind == 1) {
+            switch (drawn() % 3) {
+            case 0: channels = drawn() % 2 ? drawn() : 3 + drawn() % 9; break;
+            case 1: samples = drawn() % 2 ? drawn() : 40 + 20 * (drawn() % 6); break;
+            default: length = drawn() % LENGTH; break;
+            }
+        } else if (kind == 2) {
+            *fields[drawn() % 5] = wrong[drawn() % 6];
+        } else if (kind == 3) {
+            frame[place] = wrong[drawn() % 4];
+        } else {
+            /* Some byte of the state is another one. Where it still passes its test it is no case of this. */
+            ((unsigned char *)&damaged)[drawn() % sizeof damaged] ^= (unsigned char)(1 + drawn() % 255);
+            ((unsigned char *)&cracked)[drawn() % sizeof cracked] ^= (unsigned char)(1 + drawn() % 255);
+            murzicanu_published now;
+            float level;
+            if (murzicanu_chain_read(&damaged, &now) == MURZICANU_DONE ||
+                murzicanu_limiter_read(&cracked, &level) == MURZICANU_DONE)
+                continue;
+        }
+        good = chain_refused(kind == 4 ? &damaged : &chain, &figures, frame, length, channels, samples, &reply);
+        /* A state whose samples were damaged differs in shape. */
+        if (kind == 4 && damaged.limiter.estimator.samples != SAMPLES)
+            due = MURZICANU_SHAPE;
+        good = good && reply == due;
+        seen[reply < 5 ? reply : 0]++;
+        calls++;
+        if (kind != 2) {
+            good = good && limiter_refused(kind == 4 ? &cracked : &limiter, frame, length, channels, samples, &reply);
+            due = kind == 4 && cracked.estimator.samples != SAMPLES ? MURZICANU_SHAPE : kind;
+            good = good && reply == due;
+            calls++;
+        }
+        frame[place] = sound[place];
+    }
+    check(good && seen[1] > 1000 && seen[2] > 500 && seen[3] > 500 && seen[4] > 500,
+          "ten thousand refused calls, each with its number, change no byte of the state or the frame");
+    check(unchanged(&chain, &first, sizeof chain) && unchanged(&limiter, &second, sizeof limiter) &&
+              unchanged(frame, sound, sizeof frame),
+          "and after them the chain, the limiter and the frame are those of before, byte for byte");
+}
+
 int main(int argc, char **argv) {
     if (argc != 3)
         return 2;
+    check(murzicanu_version() == MURZICANU_VERSION, "the header and the archive have the same version");
     service(argv[1], argv[2]);
+    determined();
+    refused();
+    many();
 
     murzicanu_settings settings = MURZICANU_USUAL_SETTINGS, wrong = settings;
     murzicanu_chain chain, before, zero;
@@ -109,8 +338,7 @@ int main(int argc, char **argv) {
     figures.rms = 60.0f;
     check(murzicanu_chain_step(&chain, &figures, frame, 8 * 480, 8, 480, &answer) == MURZICANU_FIGURE, "an rms of 60 is refused with 2");
     figures.rms = -20.0f;
-    check(unchanged(&chain.estimator, &before.estimator, sizeof chain.estimator) && chain.controller.gain == before.controller.gain &&
-              chain.limiter.carried == before.limiter.carried && unchanged(frame, copy, sizeof frame),
+    check(unchanged(&chain, &before, sizeof chain) && unchanged(frame, copy, sizeof frame),
           "a refused step changes neither the chain nor the frame");
 
     /* A flag that is none. */

@@ -1,15 +1,25 @@
-/* Murzicanu: the speech leveller whose behaviour is proved, for C.
+/* Murzicanu: the speech leveller whose behaviour is proved, for C and C++.
  *
- * Link with libmurzicanu.a (library/build makes it; x86-64, no other library is needed).
+ * Link with libmurzicanu.a (library/build makes it, for x86-64). It calls no function but memset and memcpy, which
+ * every C library has.
  *
- * You own all memory. A chain or a limiter is a plain struct that you may keep anywhere, copy, save and restore.
- * Nothing is allocated, nothing is global, no call blocks, and every call ends. Calls on different structs may run
- * at the same time; calls on the same struct may not.
+ * You own all memory. A chain or a limiter is a plain struct that you may keep anywhere, copy, save and restore; every
+ * byte of it belongs to a field. Nothing is allocated, nothing that changes is global, no call blocks, and every call
+ * ends. Calls on different structs may run at the same time; calls on the same struct may not.
  *
- * Every function answers a number: MURZICANU_DONE, or why it refused. A refused step changes neither the state nor
- * the frame. A state is tested at each call: one that was damaged, or never made, is refused with
- * MURZICANU_SETTING and not used. What a call owes of you is only what C cannot check: pointers that are not null and
- * point to the whole struct, or to as many samples as you say; and no two of them to the same memory.
+ * Every function but murzicanu_version answers a number: MURZICANU_DONE, or why it refused. A refused step stores
+ * nothing in the state or the frame, and its answer is all 0. A refused `new` makes the struct all 0, which every call
+ * refuses, and a refused `read` tells 0.
+ *
+ * A state is tested at each call. One that fails is not used: a step answers MURZICANU_SHAPE where the shape is wrong or
+ * the samples are not those that stand in the state, as in a struct of zeros, and otherwise MURZICANU_SETTING; a read
+ * answers MURZICANU_SETTING. The test knows the range of each field and no more: a state that was damaged so that it
+ * still passes is used like any other, and what is proved holds of it.
+ *
+ * What a call owes of you is what C cannot check: pointers that are not null, are aligned for their type and point to
+ * the whole struct, or to as many samples as you say; no two of them to the same memory; and floats that are computed as
+ * C does it by default. A thread that rounds otherwise than to nearest or flushes small numbers to zero (FTZ, DAZ) has
+ * to set that back around a call.
  *
  * A frame is 10 ms of sound: channel after channel (not interleaved), each with the same number of samples, on the
  * scale of 16-bit samples, where full scale is 32768. What comes out lies between -32768 and 32767: that is proved.
@@ -24,7 +34,11 @@
 extern "C" {
 #endif
 
-/* What every function answers. Where several apply, the first in the order 1, 4, 2, 3 is told. */
+/* The version of this header: of the functions and of the structs. murzicanu_version() tells that of the archive; where
+ * the two differ, the structs may differ too, so compare them before the first call. */
+#define MURZICANU_VERSION 1u
+
+/* What every other function answers. Where several apply, the first in the order 1, 4, 2, 3 is told. */
 #define MURZICANU_DONE 0u
 /* Channels not 1 to 8, samples not 40 to 480 in steps of 20 or not those the state was made for, or a buffer that is
  * not channels times samples long. */
@@ -48,7 +62,7 @@ typedef struct {
 /* The usual settings: murzicanu_settings s = MURZICANU_USUAL_SETTINGS; */
 #define MURZICANU_USUAL_SETTINGS {5.0f, 50.0f, 15.0f, 6.0f, -50.0f}
 
-/* How many adjacent speech frames make a reading, as the Rust's box has it. */
+/* How many adjacent speech frames make a reading, usually. */
 #define MURZICANU_USUAL_THRESHOLD 12u
 
 /* What your meters said of a frame. */
@@ -80,7 +94,8 @@ typedef struct {
     uint32_t confident; /* 1 where the level is trusted, otherwise 0 */
 } murzicanu_published;
 
-/* ---- The states. Their fields are there so that you can own them; read what is published by the calls below. */
+/* ---- The states. Their fields are there so that you can own them; read what is published by the calls below. No struct
+ * has a hole: that is asserted after the last of them. */
 
 typedef struct {
     uint32_t left;
@@ -101,8 +116,8 @@ typedef struct {
 
 typedef struct {
     float stored[4];
-    size_t place;
-    size_t size;
+    uint32_t place;
+    uint32_t size;
 } murzicanu_ring;
 
 typedef struct {
@@ -140,8 +155,8 @@ typedef struct {
 
 typedef struct {
     float level;
-    size_t samples;
-    size_t part;
+    uint32_t samples;
+    uint32_t part;
 } murzicanu_envelope;
 
 typedef struct {
@@ -157,8 +172,8 @@ typedef struct {
 /* The limiter alone. */
 typedef struct {
     murzicanu_envelope estimator;
-    murzicanu_curve curve;
     float carried;
+    murzicanu_curve curve;
 } murzicanu_limiter;
 
 /* The whole box. */
@@ -169,17 +184,56 @@ typedef struct {
     murzicanu_limiter limiter;
 } murzicanu_chain;
 
+/* ---- The layout that the archive has. A compiler that lays a struct out in another way stops here. */
+
+#if defined(__cplusplus) && __cplusplus >= 201103L
+#define MURZICANU_LAID_OUT(name, test) static_assert(test, #name)
+#elif defined(__STDC_VERSION__) && __STDC_VERSION__ >= 201112L
+#define MURZICANU_LAID_OUT(name, test) _Static_assert(test, #name)
+#else
+#define MURZICANU_LAID_OUT(name, test) typedef char murzicanu_laid_out_##name[(test) ? 1 : -1]
+#endif
+
+MURZICANU_LAID_OUT(float_is_32_bits, sizeof(float) == 4);
+MURZICANU_LAID_OUT(size_is_64_bits, sizeof(size_t) == 8);
+MURZICANU_LAID_OUT(settings_size, sizeof(murzicanu_settings) == 20);
+MURZICANU_LAID_OUT(figures_size, sizeof(murzicanu_figures) == 20);
+MURZICANU_LAID_OUT(answer_size, sizeof(murzicanu_answer) == 16);
+MURZICANU_LAID_OUT(published_size, sizeof(murzicanu_published) == 16);
+MURZICANU_LAID_OUT(average_size, sizeof(murzicanu_average) == 12);
+MURZICANU_LAID_OUT(speech_level_size, sizeof(murzicanu_speech_level) == 64);
+MURZICANU_LAID_OUT(ring_size, sizeof(murzicanu_ring) == 24);
+MURZICANU_LAID_OUT(peaks_size, sizeof(murzicanu_peaks) == 36);
+MURZICANU_LAID_OUT(protector_size, sizeof(murzicanu_protector) == 88);
+MURZICANU_LAID_OUT(applier_size, sizeof(murzicanu_applier) == 20);
+MURZICANU_LAID_OUT(controller_size, sizeof(murzicanu_controller) == 56);
+MURZICANU_LAID_OUT(envelope_size, sizeof(murzicanu_envelope) == 12);
+MURZICANU_LAID_OUT(curve_size, sizeof(murzicanu_curve) == 48);
+MURZICANU_LAID_OUT(limiter_size, sizeof(murzicanu_limiter) == 64);
+MURZICANU_LAID_OUT(chain_size, sizeof(murzicanu_chain) == 272);
+MURZICANU_LAID_OUT(preliminary_place, offsetof(murzicanu_protector, preliminary) == 16);
+MURZICANU_LAID_OUT(reliable_place, offsetof(murzicanu_protector, reliable) == 52);
+MURZICANU_LAID_OUT(carried_place, offsetof(murzicanu_limiter, carried) == 12);
+MURZICANU_LAID_OUT(curve_place, offsetof(murzicanu_limiter, curve) == 16);
+MURZICANU_LAID_OUT(duration_place, offsetof(murzicanu_curve, duration) == 40);
+MURZICANU_LAID_OUT(protector_place, offsetof(murzicanu_chain, protector) == 64);
+MURZICANU_LAID_OUT(controller_place, offsetof(murzicanu_chain, controller) == 152);
+MURZICANU_LAID_OUT(limiter_place, offsetof(murzicanu_chain, limiter) == 208);
+
+/* The version of the archive: MURZICANU_VERSION where it fits this header. */
+uint32_t murzicanu_version(void);
+
 /* ---- The whole box: level of the speech, headroom, gain, limiter. */
 
 /* Makes a new chain for frames with so many samples a channel (10 ms: 480 at 48 kHz). A speech run of fewer frames
- * than the threshold that a non-speech frame closes leaves no trace. Refused with 1 or 4; the chain is then all 0, and
- * every call refuses it. */
+ * than the threshold that a non-speech frame closes leaves no trace in what is published later. Refused with 1 or 4; the
+ * chain is then all 0, and every call refuses it. */
 uint32_t murzicanu_chain_new(murzicanu_chain *chain, const murzicanu_settings *settings, uint32_t threshold,
                              size_t samples);
 
 /* Levels a frame where it stands, and tells what it was. `length` is the number of floats at `frame`, and has to be
- * channels times samples. Refused with 1, 4, 2 or 3; the chain and the frame are then as they were, and the answer is
- * all 0. */
+ * channels times samples. Refused with 1, 4, 2 or 3; nothing is then stored in the chain or the frame, and the answer
+ * is all 0. */
 uint32_t murzicanu_chain_step(murzicanu_chain *chain, const murzicanu_figures *figures, float *frame, size_t length,
                               size_t channels, size_t samples, murzicanu_answer *answer);
 
@@ -192,7 +246,7 @@ uint32_t murzicanu_chain_read(const murzicanu_chain *chain, murzicanu_published 
  * call refuses it. */
 uint32_t murzicanu_limiter_new(murzicanu_limiter *limiter, size_t samples);
 
-/* Limits a frame where it stands. Refused with 1, 4 or 3; the limiter and the frame are then as they were. */
+/* Limits a frame where it stands. Refused with 1, 4 or 3; nothing is then stored in the limiter or the frame. */
 uint32_t murzicanu_limiter_step(murzicanu_limiter *limiter, float *frame, size_t length, size_t channels,
                                 size_t samples);
 

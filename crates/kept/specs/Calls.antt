@@ -7,16 +7,19 @@ use lib.Dec.{eqb}
 use lib.ListN.{getD}
 use lib.Ieee.{Float, binary32, ofBits}
 use Rattle.units.specs.Figures.{accepted}
-use Rattle.units.specs.Replies.{done, refusal}
+use Rattle.units.specs.Replies.{done, badSetting, refusal}
 use Rattle.units.specs.declared.figures.Figures.{Figures}
 use Rattle.units.specs.declared.settings.Settings.{Settings}
 use Rattle.frames.specs.Samples.{largestInput, largestLevel}
 use Rattle.frames.specs.Refusal.{frameRefusal}
 use Rattle.limiter.specs.Limiter as Limiting
+use Rattle.limiter.specs.declared.Heard.{Heard}
 use Rattle.chain.specs.Answer.{Said, nonSpeech}
 use Rattle.chain.specs.Chain as Chains
 use Rattle.chain.specs.Calls as Chaining
-use Rattle.kept.specs.States.{soundLimiter, limiterOf, keptLimiter, soundChain, chainOf, keptChain}
+use Rattle.chain.specs.declared.Published.{Published as ChainPublished}
+use Rattle.chain.specs.declared.Reading.{Reading as ChainReading}
+use Rattle.kept.specs.States.{numberOf, soundLimiter, limiterOf, keptLimiter, soundChain, chainOf, keptChain}
 use Rattle.kept.specs.declared.states.KeptLimiter.{KeptLimiter}
 use Rattle.kept.specs.declared.states.KeptChain.{KeptChain}
 use Rattle.kept.specs.declared.calls.KeptAnswer.{KeptAnswer}
@@ -55,10 +58,13 @@ limiterStepped k frame channels samples =
       frame = cond (eqb reply done) (p .frame) frame;
     }
 
--- the envelope's last value
+-- the envelope's last value: what the limiter tells, where the flags are flags, and otherwise 4 and 0
 unfoldable pub limiterRead : KeptLimiter → LevelRead
-unfolding refusal limiterPasses
-limiterRead k = record { reply = refusal true (limiterPasses k) true true; level = cond (limiterPasses k) (k .estimator .level) zero }
+unfolding soundLimiter limiterOf Limiting.heard
+limiterRead k =
+    let nothing : Heard = record { reply = badSetting; level = record { 0 = zero } } in
+    let told = cond (soundLimiter k) (Limiting.heard (limiterOf k)) nothing in
+    record { reply = told .reply; level = told .level }
 
 -- ---- the chain
 unfoldable pub chainPasses : KeptChain → Bool
@@ -72,7 +78,7 @@ chainMade s t samples = let m = Chaining.made s t samples in record { reply = m 
 
 -- an answer as numbers: its kind, how many frames are missing, the level and the headroom; 0 where it says nothing of them
 unfoldable pub keptAnswer : Said → KeptAnswer
-keptAnswer s = record { kind = s .number; missing = s .missing; level = getD (s .values) 0 zero; headroom = getD (s .values) 1 zero }
+keptAnswer s = record { kind = s .number; missing = s .missing; level = record { 0 = getD (s .values) 0 zero }; headroom = record { 0 = getD (s .values) 1 zero } }
 
 pub record ChainStepped : Type 0 where
   pub next : NextChain
@@ -81,7 +87,7 @@ pub record ChainStepped : Type 0 where
 unfoldable pub chainStepped : KeptChain → Figures → List Float → ℕ → ℕ → ChainStepped
 unfolding frameRefusal chainPasses accepted chainOf keptChain keptAnswer Chaining.called
 chainStepped k f frame channels samples =
-    let reply = frameRefusal frame channels samples (eqb samples (k .limiter .estimator .samples)) (chainPasses k) (accepted f) largestInput in
+    let reply = frameRefusal frame channels samples (eqb samples (Chains.samplesOf (chainOf k))) (chainPasses k) (accepted f) largestInput in
     let c = Chaining.called (chainOf k) f frame channels samples in
     record {
       next =
@@ -93,13 +99,15 @@ chainStepped k f frame channels samples =
       frame = cond (eqb reply done) (c .frame) frame;
     }
 
--- what a chain publishes: the level of the speech, the headroom, the gain in dB, and 1 where the level is trusted
-unfoldable pub published : KeptChain → Published
-published k = record { level = k .estimator .level; headroom = k .protector .headroom; gain = k .controller .gain; confident = k .estimator .confident }
+-- what a chain publishes, with a number for the flag
+unfoldable pub keptPublished : ChainPublished → Published
+unfolding numberOf
+keptPublished p = record { level = p .level; headroom = p .headroom; gain = p .gain; confident = numberOf (p .confident) }
 
-unfoldable pub nothingPublished : Published
-nothingPublished = record { level = zero; headroom = zero; gain = zero; confident = 0 }
-
+-- what the chain tells, where the flags are flags, and otherwise 4 and all 0
 unfoldable pub chainRead : KeptChain → Reading
-unfolding refusal chainPasses published nothingPublished
-chainRead k = record { reply = refusal true (chainPasses k) true true; published = cond (chainPasses k) (published k) nothingPublished }
+unfolding soundChain chainOf Chaining.publishedTold keptPublished
+chainRead k =
+    let nothing : ChainReading = record { reply = badSetting; published = Chaining.nothingPublished } in
+    let told = cond (soundChain k) (Chaining.publishedTold (chainOf k)) nothing in
+    record { reply = told .reply; published = keptPublished (told .published) }

@@ -1,9 +1,18 @@
--- What a caller in another language keeps of a limiter and of a chain: numbers in the place of flags, and all else as it is. Definitions only.
+-- What a caller in another language keeps of a limiter and of a chain: numbers in the place of flags, numbers of 32 bits where the parts have 64, and all
+-- else as it is. Definitions only.
 use mathlib.Core.Bool.{Bool, _&&_, cond}
-use Prim.Native.Nat.{ℕ}
+use Prim.Native.Nat.{ℕ, _%_}
 use lib.Dec.{eqb, leb}
+use Rattle.saturation_protector_buffer.specs.declared.Ring.{Ring}
+use Rattle.saturation_protector.specs.declared.Peaks.{Peaks}
+use Rattle.saturation_protector.specs.declared.Protector.{Protector}
+use Rattle.fixed_digital_level_estimator.specs.declared.Estimator.{Estimator}
 use Rattle.limiter.specs.declared.Limiter.{Limiter}
 use Rattle.chain.specs.declared.Chain.{Chain}
+use Rattle.kept.specs.declared.states.KeptRing.{KeptRing}
+use Rattle.kept.specs.declared.states.KeptPeaks.{KeptPeaks}
+use Rattle.kept.specs.declared.states.KeptProtector.{KeptProtector}
+use Rattle.kept.specs.declared.states.KeptEnvelope.{KeptEnvelope}
 use Rattle.kept.specs.declared.states.KeptLimiter.{KeptLimiter}
 use Rattle.kept.specs.declared.states.KeptChain.{KeptChain}
 
@@ -17,16 +26,67 @@ flagOf n = eqb n 1
 unfoldable pub numberOf : Bool → ℕ
 numberOf b = cond b 1 0
 
+-- ---- a number of 64 bits is kept in 32: its last ones, which are the number itself where it is below 2 ^ 32
+unfoldable pub narrow : ℕ → ℕ
+narrow n = n % 4294967296
+
+-- ---- the headroom
+unfoldable pub ringOf : KeptRing → Ring
+ringOf k = record { stored = k .stored; place = k .place; size = k .size }
+
+unfoldable pub keptRing : Ring → KeptRing
+unfolding narrow
+keptRing r = record { stored = r .stored; place = narrow (r .place); size = narrow (r .size) }
+
+unfoldable pub peaksOf : KeptPeaks → Peaks
+unfolding ringOf
+peaksOf k = record { headroom = k .headroom; ring = ringOf (k .ring); largest = k .largest; elapsed = k .elapsed }
+
+unfoldable pub keptPeaks : Peaks → KeptPeaks
+unfolding keptRing
+keptPeaks s = record { headroom = s .headroom; ring = keptRing (s .ring); largest = s .largest; elapsed = s .elapsed }
+
+unfoldable pub protectorOf : KeptProtector → Protector
+unfolding peaksOf
+protectorOf k =
+    record {
+      initial = k .initial;
+      threshold = k .threshold;
+      count = k .count;
+      headroom = k .headroom;
+      preliminary = peaksOf (k .preliminary);
+      reliable = peaksOf (k .reliable);
+    }
+
+unfoldable pub keptProtector : Protector → KeptProtector
+unfolding keptPeaks
+keptProtector s =
+    record {
+      initial = s .initial;
+      threshold = s .threshold;
+      count = s .count;
+      headroom = s .headroom;
+      preliminary = keptPeaks (s .preliminary);
+      reliable = keptPeaks (s .reliable);
+    }
+
 -- ---- the limiter
+unfoldable pub envelopeOf : KeptEnvelope → Estimator
+envelopeOf k = record { level = k .level; samples = k .samples; part = k .part }
+
+unfoldable pub keptEnvelope : Estimator → KeptEnvelope
+unfolding narrow
+keptEnvelope e = record { level = e .level; samples = narrow (e .samples); part = narrow (e .part) }
+
 unfoldable pub soundLimiter : KeptLimiter → Bool
 unfolding isFlag
 soundLimiter k = isFlag (k .curve .available)
 
 unfoldable pub limiterOf : KeptLimiter → Limiter
-unfolding flagOf
+unfolding flagOf envelopeOf
 limiterOf k =
     record {
-      estimator = k .estimator;
+      estimator = envelopeOf (k .estimator);
       curve =
           record {
             identity = k .curve .identity;
@@ -41,10 +101,11 @@ limiterOf k =
     }
 
 unfoldable pub keptLimiter : Limiter → KeptLimiter
-unfolding numberOf
+unfolding numberOf keptEnvelope
 keptLimiter l =
     record {
-      estimator = l .estimator;
+      estimator = keptEnvelope (l .estimator);
+      carried = l .carried;
       curve =
           record {
             identity = l .curve .identity;
@@ -55,7 +116,6 @@ keptLimiter l =
             region = l .curve .region;
             duration = l .curve .duration;
           };
-      carried = l .carried;
     }
 
 -- ---- the chain
@@ -64,7 +124,7 @@ unfolding isFlag soundLimiter
 soundChain k = isFlag (k .estimator .confident) && isFlag (k .controller .applier .clip) && soundLimiter (k .limiter)
 
 unfoldable pub chainOf : KeptChain → Chain
-unfolding flagOf limiterOf
+unfolding flagOf protectorOf limiterOf
 chainOf k =
     record {
       estimator =
@@ -78,7 +138,7 @@ chainOf k =
             confident = flagOf (k .estimator .confident);
             count = k .estimator .count;
           };
-      protector = k .protector;
+      protector = protectorOf (k .protector);
       controller =
           record {
             applier =
@@ -99,7 +159,7 @@ chainOf k =
     }
 
 unfoldable pub keptChain : Chain → KeptChain
-unfolding numberOf keptLimiter
+unfolding numberOf keptProtector keptLimiter
 keptChain c =
     record {
       estimator =
@@ -113,7 +173,7 @@ keptChain c =
             confident = numberOf (c .estimator .confident);
             count = c .estimator .count;
           };
-      protector = c .protector;
+      protector = keptProtector (c .protector);
       controller =
           record {
             applier =

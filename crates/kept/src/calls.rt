@@ -7,13 +7,19 @@ ghost use Rattle.units.specs.Replies.{done, refusal};
 ghost use Rattle.frames.specs.Shape.{isShape};
 ghost use Rattle.limiter.specs.Scale.{FullScale};
 ghost use Rattle.chain.specs.Answer.{said};
-ghost use Rattle.kept.specs.Calls.{limiterMade, limiterStepped, limiterRead, chainMade, keptAnswer, chainStepped, chainRead};
+ghost use Rattle.kept.specs.Calls.{limiterMade, limiterStepped, limiterRead, chainMade, keptAnswer, chainStepped, keptPublished, chainRead};
 use crate::states::KeptChain;
 use crate::states::KeptLimiter;
+use crate::states::number_of;
 use chain::Answer;
 use chain::Chain;
 use limiter::Limiter;
 use units::figures::Figures;
+use units::kinds::Db;
+use units::kinds::Dbfs;
+use units::kinds::LinearS16;
+use units::replies::DONE;
+use units::replies::SETTING;
 use units::replies::refusal;
 use units::settings::Settings;
 
@@ -23,17 +29,17 @@ use units::settings::Settings;
 pub struct KeptAnswer {
     pub kind: u32,
     pub missing: u32,
-    pub level: f32,
-    pub headroom: f32,
+    pub level: Dbfs,
+    pub headroom: Db,
 }
 
-// What a chain publishes: the level of the speech in dBFS, the headroom and the gain in dB, and 1 where the
-// level is trusted.
+// What a chain publishes: the level of the speech, the headroom, the gain, and 1 where the level is trusted,
+// otherwise 0.
 #[repr(C)]
 pub struct Published {
-    pub level: f32,
-    pub headroom: f32,
-    pub gain: f32,
+    pub level: Dbfs,
+    pub headroom: Db,
+    pub gain: Db,
     pub confident: u32,
 }
 
@@ -47,7 +53,7 @@ pub struct NewLimiter {
 // A reply's number, and the envelope's last value: 0 where it is refused.
 pub struct LevelRead {
     pub reply: u32,
-    pub level: f32,
+    pub level: LinearS16,
 }
 
 // A reply's number, and a new chain: all 0 where it is refused.
@@ -104,16 +110,24 @@ pub fn limit_frame(
 {
     if kept.is_sound() {
         let limiter = kept.limiter();
-        let next = limiter.process(frame, channels, samples);
-        let after = next.limiter;
-        NewLimiter {
-            reply: next.reply,
-            limiter: KeptLimiter::of(after),
+        let limited = limiter.process(frame, channels, samples);
+        if limited.reply == DONE {
+            let after = limited.limiter;
+            NewLimiter {
+                reply: DONE,
+                limiter: KeptLimiter::of(after),
+            }
+        } else {
+            NewLimiter {
+                reply: limited.reply,
+                limiter: kept,
+            }
         }
     } else {
         let estimator = kept.estimator;
+        let set = estimator.samples as usize;
         NewLimiter {
-            reply: refuse_state(channels, samples, frame.len(), estimator.samples),
+            reply: refuse_state(channels, samples, frame.len(), set),
             limiter: kept,
         }
     }
@@ -123,13 +137,19 @@ pub fn limit_frame(
 pub fn read_limiter(kept: KeptLimiter) -> LevelRead
     ensures { λ r. ⌜ r ≡ limiterRead kept ⌝ }
 {
-    let sound = kept.is_sound();
-    let limiter = kept.limiter();
-    let ok = sound & limiter.passes();
-    let estimator = kept.estimator;
-    LevelRead {
-        reply: refusal(true, ok, true, true),
-        level: floats::pick_f32(ok, estimator.level, 0.0),
+    if kept.is_sound() {
+        let limiter = kept.limiter();
+        let heard = limiter.last_audio_level();
+        let level = heard.level;
+        LevelRead {
+            reply: heard.reply,
+            level,
+        }
+    } else {
+        LevelRead {
+            reply: SETTING,
+            level: LinearS16(0.0),
+        }
     }
 }
 
@@ -153,20 +173,20 @@ fn answer_as_numbers(answer: Answer) -> KeptAnswer
         Answer::NonSpeech => KeptAnswer {
             kind: 0,
             missing: 0,
-            level: 0.0,
-            headroom: 0.0,
+            level: Dbfs(0.0),
+            headroom: Db(0.0),
         },
         Answer::Waiting(missing) => KeptAnswer {
             kind: 1,
             missing,
-            level: 0.0,
-            headroom: 0.0,
+            level: Dbfs(0.0),
+            headroom: Db(0.0),
         },
         Answer::Publishing(level, headroom) => KeptAnswer {
             kind: 2,
             missing: 0,
-            level: level.0,
-            headroom: headroom.0,
+            level,
+            headroom,
         },
     }
 }
@@ -186,26 +206,45 @@ pub fn take_frame(
     if kept.is_sound() {
         let chain = kept.chain();
         let next = chain.step(figures, frame, channels, samples);
-        let answer = next.answer;
-        let after = next.chain;
-        NextChain {
-            reply: next.reply,
-            answer: answer_as_numbers(answer),
-            chain: KeptChain::of(after),
+        if next.reply == DONE {
+            let answer = next.answer;
+            let after = next.chain;
+            NextChain {
+                reply: DONE,
+                answer: answer_as_numbers(answer),
+                chain: KeptChain::of(after),
+            }
+        } else {
+            NextChain {
+                reply: next.reply,
+                answer: answer_as_numbers(Answer::NonSpeech),
+                chain: kept,
+            }
         }
     } else {
         let limiter = kept.limiter;
         let estimator = limiter.estimator;
+        let set = estimator.samples as usize;
         NextChain {
-            reply: refuse_state(channels, samples, frame.len(), estimator.samples),
-            answer: KeptAnswer {
-                kind: 0,
-                missing: 0,
-                level: 0.0,
-                headroom: 0.0,
-            },
+            reply: refuse_state(channels, samples, frame.len(), set),
+            answer: answer_as_numbers(Answer::NonSpeech),
             chain: kept,
         }
+    }
+}
+
+// What a chain publishes, with a number for the flag.
+fn published_as_numbers(published: chain::Published) -> Published
+    ensures { λ r. ⌜ r ≡ keptPublished published ⌝ }
+{
+    let level = published.level;
+    let headroom = published.headroom;
+    let gain = published.gain;
+    Published {
+        level,
+        headroom,
+        gain,
+        confident: number_of(published.confident),
     }
 }
 
@@ -213,30 +252,21 @@ pub fn take_frame(
 pub fn read_chain(kept: KeptChain) -> Reading
     ensures { λ r. ⌜ r ≡ chainRead kept ⌝ }
 {
-    let sound = kept.is_sound();
-    let chain = kept.chain();
-    let ok = sound & chain.passes();
-    let reply = refusal(true, ok, true, true);
-    if ok {
-        let estimator = kept.estimator;
-        let protector = kept.protector;
-        let controller = kept.controller;
+    if kept.is_sound() {
+        let chain = kept.chain();
+        let told = chain.published();
+        let published = told.published;
         Reading {
-            reply,
-            published: Published {
-                level: estimator.level,
-                headroom: protector.headroom,
-                gain: controller.gain,
-                confident: estimator.confident,
-            },
+            reply: told.reply,
+            published: published_as_numbers(published),
         }
     } else {
         Reading {
-            reply,
+            reply: SETTING,
             published: Published {
-                level: 0.0,
-                headroom: 0.0,
-                gain: 0.0,
+                level: Dbfs(0.0),
+                headroom: Db(0.0),
+                gain: Db(0.0),
                 confident: 0,
             },
         }

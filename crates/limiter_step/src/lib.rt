@@ -5,9 +5,10 @@ ghost use Rattle.units.specs.Replies.{done};
 ghost use Rattle.limiter.specs.Scale.{FullScale};
 ghost use Rattle.limiter.specs.Limiter.{processed};
 use limiter::Limiter;
+use units::replies::DONE;
 
 // Limits a frame by a limiter that is lent: the state is taken out, the limiter's step is called, and
-// the next state is stored. Refused as `process` is, and then neither state nor frame changes.
+// the next state is stored. Refused as `process` is, and then nothing is stored in state or frame.
 pub fn process_lent(state: &mut Limiter, frame: &mut [f32], channels: usize, samples: usize) -> u32
     ensures { λ r. ⌜ r ≡ processed (now (state .entry)) (now (frame .entry)) channels samples .next .reply ⌝ }
     ensures { λ _. ⌜ now (state .exit) ≡ processed (now (state .entry)) (now (frame .entry)) channels samples .next .limiter ⌝ }
@@ -16,6 +17,8 @@ pub fn process_lent(state: &mut Limiter, frame: &mut [f32], channels: usize, sam
 {
     let taken = *state;
     let next = taken.process(frame, channels, samples);
-    *state = next.limiter;
+    if next.reply == DONE {
+        *state = next.limiter;
+    }
     next.reply
 }

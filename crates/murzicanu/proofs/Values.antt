@@ -16,9 +16,8 @@ use types.Kit.{Given, Item, ‵, nth}
 use types.Run.{Reads}
 use types.Part.{Part, whole, sub, look-in}
 use denote.Laws.{Is}
-use denote.Builtin.{f32}
 use denote.Struct.Laws as LL
-use Rattle.murzicanu.proofs.Lent.{Whole, struct, spelled, float}
+use Rattle.murzicanu.proofs.Lent.{Whole, struct, spelled}
 use Rattle.kept.specs.declared.calls.NewLimiter.{NewLimiter}
 use Rattle.kept.specs.declared.calls.LevelRead.{LevelRead}
 use Rattle.kept.specs.declared.calls.NewChain.{NewChain}
@@ -30,6 +29,8 @@ use Rattle.kept.proofs.states.KeptChain as KeptChain·
 use Rattle.kept.proofs.states.KeptChain.Laws as KeptChain′
 use Rattle.units.proofs.settings.Settings as Settings·
 use Rattle.units.proofs.settings.Settings.Laws as Settings′
+use Rattle.units.proofs.kinds.LinearS16 as LinearS16·
+use Rattle.units.proofs.kinds.LinearS16.Laws as LinearS16′
 use Rattle.units.proofs.figures.Figures as Figures·
 use Rattle.units.proofs.figures.Figures.Laws as Figures′
 use Rattle.kept.proofs.calls.KeptAnswer as KeptAnswer·
@@ -65,6 +66,9 @@ answer = struct KeptAnswer·.the-type KeptAnswer′.the-laws KeptAnswer′.the-p
 abbrev pub published : Whole Published·.the-row
 published = struct Published·.the-type Published′.the-laws Published′.the-plain Published′.the-copy
 
+abbrev pub level : Whole LinearS16·.the-row
+level = struct LinearS16·.the-type LinearS16′.the-laws LinearS16′.the-plain LinearS16′.the-copy
+
 abbrev pub new-limiter : Whole NewLimiter·.the-row
 new-limiter = spelled (struct NewLimiter·.the-type NewLimiter′.the-laws NewLimiter′.the-plain NewLimiter′.the-copy) (λ r. vstruct (vcons (vint w32 (r .reply)) (vcons (limiter .val (r .limiter)) vnil))) (λ r. refl)
 
@@ -72,9 +76,9 @@ pub new-limiter-has : (r : NewLimiter) → Is NewLimiter·.the-row r (new-limite
 new-limiter-has r is = let p = LL.owed NewLimiter·.the-type NewLimiter′.the-laws r _ is in (p .0 .1, p .1 .0)
 
 abbrev pub level-read : Whole LevelRead·.the-row
-level-read = spelled (struct LevelRead·.the-type LevelRead′.the-laws LevelRead′.the-plain LevelRead′.the-copy) (λ r. vstruct (vcons (vint w32 (r .reply)) (vcons (float .val (r .level)) vnil))) (λ r. refl)
+level-read = spelled (struct LevelRead·.the-type LevelRead′.the-laws LevelRead′.the-plain LevelRead′.the-copy) (λ r. vstruct (vcons (vint w32 (r .reply)) (vcons (level .val (r .level)) vnil))) (λ r. refl)
 
-pub level-read-has : (r : LevelRead) → Is LevelRead·.the-row r (level-read .val r ∷ []) → (r .reply < 2 ^ 32) × Is f32 (r .level) (float .val (r .level) ∷ [])
+pub level-read-has : (r : LevelRead) → Is LevelRead·.the-row r (level-read .val r ∷ []) → (r .reply < 2 ^ 32) × Is LinearS16·.the-row (r .level) (level .val (r .level) ∷ [])
 level-read-has r is = let p = LL.owed LevelRead·.the-type LevelRead′.the-laws r _ is in (p .0 .1, p .1 .0)
 
 abbrev pub new-chain-vals : NewChain → Vals

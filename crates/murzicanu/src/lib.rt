@@ -1,10 +1,11 @@
 // The library that C and Rust link: the chain and the limiter over states that the caller owns and lends. Every
-// function answers a reply's number, 0 where it is done; a refused step changes neither the state nor the
-// frame. include/murzicanu.h declares them for C.
+// function but the first answers a reply's number, 0 where it is done; a refused step stores nothing in the state
+// or the frame. include/murzicanu.h declares them for C.
 
 ghost use mathlib.Core.Path.{_≡_};
 ghost use Rattle.units.specs.Replies.{done};
 ghost use Rattle.limiter.specs.Scale.{FullScale};
+ghost use Rattle.kept.specs.Version.{version};
 ghost use Rattle.kept.specs.Calls.{limiterMade, limiterStepped, limiterRead, chainMade, chainStepped, chainRead};
 use kept::calls::KeptAnswer;
 use kept::calls::Published;
@@ -17,7 +18,20 @@ use kept::calls::take_frame;
 use kept::states::KeptChain;
 use kept::states::KeptLimiter;
 use units::figures::Figures;
+use units::kinds::LinearS16;
+use units::replies::DONE;
 use units::settings::Settings;
+
+// The version of the interface: of the functions below and of the structs that they are lent.
+const VERSION: u32 = 1;
+
+// The version of the interface. A caller compares it with the version that its own declarations have.
+#[no_mangle]
+pub extern "C" fn murzicanu_version() -> u32
+    ensures { λ r. ⌜ r ≡ version ⌝ }
+{
+    VERSION
+}
 
 // Makes a new chain for channels of so many samples; refused with 1 or 4, and then the chain is all 0, which
 // every step refuses.
@@ -38,7 +52,7 @@ pub extern "C" fn murzicanu_chain_new(
 }
 
 // Takes a frame with its figures: levels it where it stands, and tells what it was. Refused with 1, 4, 2 or 3, and
-// then neither the chain nor the frame changes, and the answer is all 0.
+// then nothing is stored in the chain or the frame, and the answer is all 0.
 #[no_mangle]
 pub extern "C" fn murzicanu_chain_step(
     chain: &mut KeptChain,
@@ -57,8 +71,10 @@ pub extern "C" fn murzicanu_chain_step(
     let taken = *chain;
     let given = *figures;
     let next = take_frame(taken, given, frame, channels, samples);
-    *chain = next.chain;
     *answer = next.answer;
+    if next.reply == DONE {
+        *chain = next.chain;
+    }
     next.reply
 }
 
@@ -86,7 +102,7 @@ pub extern "C" fn murzicanu_limiter_new(limiter: &mut KeptLimiter, samples: usiz
     made.reply
 }
 
-// Limits a frame where it stands. Refused with 1, 4 or 3, and then neither the limiter nor the frame changes.
+// Limits a frame where it stands. Refused with 1, 4 or 3, and then nothing is stored in the limiter or the frame.
 #[no_mangle]
 pub extern "C" fn murzicanu_limiter_step(
     limiter: &mut KeptLimiter,
@@ -100,14 +116,16 @@ pub extern "C" fn murzicanu_limiter_step(
     ensures scale { λ r. ⌜ (r ≡ done → FullScale (now (frame .exit))) ⌝ }
 {
     let taken = *limiter;
-    let next = limit_frame(taken, frame, channels, samples);
-    *limiter = next.limiter;
-    next.reply
+    let limited = limit_frame(taken, frame, channels, samples);
+    if limited.reply == DONE {
+        *limiter = limited.limiter;
+    }
+    limited.reply
 }
 
 // Reads the limiter's envelope; a limiter that fails its test is refused with 4, and then the level is 0.
 #[no_mangle]
-pub extern "C" fn murzicanu_limiter_read(limiter: &KeptLimiter, level: &mut f32) -> u32
+pub extern "C" fn murzicanu_limiter_read(limiter: &KeptLimiter, level: &mut LinearS16) -> u32
     ensures { λ r. ⌜ r ≡ limiterRead (now (limiter .entry)) .reply ⌝ }
     ensures { λ _. ⌜ now (level .exit) ≡ limiterRead (now (limiter .entry)) .level ⌝ }
 {

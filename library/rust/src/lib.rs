@@ -8,7 +8,10 @@
 //! - every sample that a chain or a limiter leaves lies between -32768 and 32767;
 //! - speech of fewer frames than the threshold that a non-speech frame closes leaves no trace in anything that is
 //!   published later;
-//! - a refused call changes nothing.
+//! - a refused step changes nothing.
+//!
+//! What the proof takes for granted of the processor is what Rust does too: floats round to nearest, and small ones are
+//! not flushed to zero.
 //!
 //! ```no_run
 //! use murzicanu::{Answer, Chain, Figures, Settings, USUAL_THRESHOLD};
@@ -31,12 +34,16 @@ use std::fmt;
 
 mod library;
 
-/// How many adjacent speech frames make a reading, as the Rust's own box has it.
+/// How many adjacent speech frames make a reading, usually.
 pub const USUAL_THRESHOLD: u32 = 12;
 
-/// Why a call was refused. Nothing changed then. Where several apply, the first in the order `Shape`, `Setting`,
-/// `Figure`, `Sample` is told.
+/// The version of the archive's interface that this crate is written for: of its functions and its structs.
+pub const VERSION: u32 = 1;
+
+/// Why a call was refused. Nothing changed then. Where several of the first four apply, the first in the order `Shape`,
+/// `Setting`, `Figure`, `Sample` is told.
 #[derive(Clone, Copy, Debug, PartialEq, Eq, Hash)]
+#[non_exhaustive]
 pub enum Refusal {
     /// Channels not 1 to 8, samples not 40 to 480 in steps of 20, or a buffer that is not channels times samples long.
     Shape,
@@ -46,16 +53,32 @@ pub enum Refusal {
     Sample,
     /// A setting out of its range, or a threshold that is not 1 to 200.
     Setting,
+    /// The archive that is linked has this version, and not [`VERSION`]. Told by `new`, which makes nothing then.
+    Version(u32),
+    /// The archive answered this number, which no call of [`VERSION`] answers.
+    Unknown(u32),
 }
 
 impl Refusal {
-    /// The number that stands on the card: 1 shape, 2 figure, 3 sample, 4 setting.
-    pub fn number(self) -> u32 {
+    /// The number that the archive answered: 1 shape, 2 figure, 3 sample, 4 setting. None where it was not asked,
+    /// because its version is another.
+    pub fn number(self) -> Option<u32> {
         match self {
-            Refusal::Shape => 1,
-            Refusal::Figure => 2,
-            Refusal::Sample => 3,
-            Refusal::Setting => 4,
+            Refusal::Shape => Some(1),
+            Refusal::Figure => Some(2),
+            Refusal::Sample => Some(3),
+            Refusal::Setting => Some(4),
+            Refusal::Version(_) => None,
+            Refusal::Unknown(number) => Some(number),
+        }
+    }
+
+    /// Whether the archive has the version of this crate's declarations.
+    fn of_version(version: u32) -> Result<(), Refusal> {
+        if version == VERSION {
+            Ok(())
+        } else {
+            Err(Refusal::Version(version))
         }
     }
 
@@ -65,26 +88,31 @@ impl Refusal {
             1 => Err(Refusal::Shape),
             2 => Err(Refusal::Figure),
             3 => Err(Refusal::Sample),
-            _ => Err(Refusal::Setting),
+            4 => Err(Refusal::Setting),
+            number => Err(Refusal::Unknown(number)),
         }
     }
 }
 
 impl fmt::Display for Refusal {
     fn fmt(&self, f: &mut fmt::Formatter<'_>) -> fmt::Result {
-        let what = match self {
-            Refusal::Shape => "the channels, the samples or the buffer's length",
-            Refusal::Figure => "a figure",
-            Refusal::Sample => "a sample",
-            Refusal::Setting => "a setting or the state",
+        let (number, what) = match self {
+            Refusal::Shape => (1, "the channels, the samples or the buffer's length"),
+            Refusal::Figure => (2, "a figure"),
+            Refusal::Sample => (3, "a sample"),
+            Refusal::Setting => (4, "a setting or the state"),
+            Refusal::Version(version) => {
+                return write!(f, "libmurzicanu.a has version {version}, and this crate is written for {VERSION}");
+            }
+            Refusal::Unknown(number) => return write!(f, "refused with {number}, a number that this crate does not know"),
         };
-        write!(f, "refused with {}: {} is not as it should be", self.number(), what)
+        write!(f, "refused with {number}: {what} is not as it should be")
     }
 }
 
 impl Error for Refusal {}
 
-/// What an operator sets. The default is the Rust's own.
+/// What an operator sets. The default is the usual settings.
 #[derive(Clone, Copy, Debug, PartialEq)]
 #[repr(C)]
 pub struct Settings {
@@ -167,8 +195,11 @@ impl Chain {
     ///
     /// # Errors
     ///
-    /// [`Refusal::Shape`] where no frame has so many samples, then [`Refusal::Setting`].
+    /// [`Refusal::Version`] where the archive has another version; then [`Refusal::Shape`] where no frame has so many
+    /// samples, then [`Refusal::Setting`].
     pub fn new(settings: &Settings, threshold: u32, samples: usize) -> Result<Chain, Refusal> {
+        // SAFETY: the function takes nothing.
+        Refusal::of_version(unsafe { library::murzicanu_version() })?;
         let mut state = library::Chain::default();
         // SAFETY: both references are to whole structs in the layout that the library has.
         let reply = unsafe { library::murzicanu_chain_new(&mut state, settings, threshold, samples) };
@@ -237,8 +268,10 @@ impl Limiter {
     ///
     /// # Errors
     ///
-    /// [`Refusal::Shape`] where no frame has so many.
+    /// [`Refusal::Version`] where the archive has another version; then [`Refusal::Shape`] where no frame has so many.
     pub fn new(samples: usize) -> Result<Limiter, Refusal> {
+        // SAFETY: the function takes nothing.
+        Refusal::of_version(unsafe { library::murzicanu_version() })?;
         let mut state = library::Limiter::default();
         // SAFETY: the reference is to a whole struct in the layout that the library has.
         let reply = unsafe { library::murzicanu_limiter_new(&mut state, samples) };
@@ -268,5 +301,32 @@ impl Limiter {
         // SAFETY: as above.
         let reply = unsafe { library::murzicanu_limiter_read(&self.state, &mut level) };
         Refusal::of(reply).map(|()| level)
+    }
+}
+
+#[cfg(test)]
+mod tests {
+    use super::*;
+
+    #[test]
+    fn a_reply_that_is_not_known_is_its_own_error() {
+        assert_eq!((0..5).map(Refusal::of).collect::<Vec<_>>(), [
+            Ok(()),
+            Err(Refusal::Shape),
+            Err(Refusal::Figure),
+            Err(Refusal::Sample),
+            Err(Refusal::Setting)
+        ]);
+        assert_eq!(Refusal::of(5), Err(Refusal::Unknown(5)));
+        assert_eq!(Refusal::Unknown(5).number(), Some(5));
+        assert!(Refusal::Unknown(5).to_string().contains("does not know"));
+    }
+
+    #[test]
+    fn another_version_is_refused() {
+        assert_eq!(Refusal::of_version(VERSION), Ok(()));
+        assert_eq!(Refusal::of_version(VERSION + 1), Err(Refusal::Version(VERSION + 1)));
+        assert_eq!(Refusal::Version(7).number(), None);
+        assert!(Refusal::Version(7).to_string().contains("version 7"));
     }
 }

@@ -1,6 +1,7 @@
 //! What `libmurzicanu.a` has, as library/include/murzicanu.h declares it for C.
 
 use crate::{Figures, Settings};
+use std::mem::{align_of, size_of};
 
 #[derive(Clone, Copy, Default)]
 #[repr(C)]
@@ -37,8 +38,8 @@ struct SpeechLevel {
 #[repr(C)]
 struct Ring {
     stored: [f32; 4],
-    place: usize,
-    size: usize,
+    place: u32,
+    size: u32,
 }
 
 #[derive(Clone, Copy, Default)]
@@ -86,8 +87,8 @@ struct Controller {
 #[repr(C)]
 struct Envelope {
     level: f32,
-    samples: usize,
-    part: usize,
+    samples: u32,
+    part: u32,
 }
 
 #[derive(Clone, Copy, Default)]
@@ -106,8 +107,8 @@ struct Curve {
 #[repr(C)]
 pub struct Limiter {
     estimator: Envelope,
-    curve: Curve,
     carried: f32,
+    curve: Curve,
 }
 
 #[derive(Clone, Copy, Default)]
@@ -137,7 +138,27 @@ pub struct Published {
     pub confident: u32,
 }
 
+// The layout that the archive has: the size of each struct is the sum of its fields' sizes, so that each field stands
+// where the ones before it end, and no byte is left between them.
+const _: () = {
+    assert!(size_of::<usize>() == 8 && align_of::<Chain>() == 8 && align_of::<Limiter>() == 8);
+    assert!(size_of::<Settings>() == 5 * 4 && size_of::<SettingsKept>() == 5 * 4 && size_of::<Figures>() == 5 * 4);
+    assert!(size_of::<Answer>() == 4 * 4 && size_of::<Published>() == 4 * 4);
+    assert!(size_of::<Average>() == 3 * 4);
+    assert!(size_of::<SpeechLevel>() == 20 + 2 * 4 + 2 * 12 + 3 * 4);
+    assert!(size_of::<Ring>() == 4 * 4 + 2 * 4);
+    assert!(size_of::<Peaks>() == 4 + 24 + 2 * 4);
+    assert!(size_of::<Protector>() == 4 * 4 + 2 * 36);
+    assert!(size_of::<Applier>() == 5 * 4);
+    assert!(size_of::<Controller>() == 20 + 20 + 4 * 4);
+    assert!(size_of::<Envelope>() == 3 * 4);
+    assert!(size_of::<Curve>() == 4 * 8 + 2 * 4 + 8);
+    assert!(size_of::<Limiter>() == 12 + 4 + 48);
+    assert!(size_of::<Chain>() == 64 + 88 + 56 + 64);
+};
+
 extern "C" {
+    pub fn murzicanu_version() -> u32;
     pub fn murzicanu_chain_new(chain: *mut Chain, settings: *const Settings, threshold: u32, samples: usize) -> u32;
     pub fn murzicanu_chain_step(
         chain: *mut Chain,

@@ -1,7 +1,13 @@
 //! Tests of the library from Rust. MURZICANU_STRIP and MURZICANU_LINES name a strip and the lines that are due for it.
 
-use murzicanu::{Answer, Chain, Figures, Limiter, Refusal, Settings, USUAL_THRESHOLD};
-use std::{env, fs};
+use murzicanu::{Answer, Chain, Figures, Limiter, Refusal, Settings, USUAL_THRESHOLD, VERSION};
+use std::mem::{size_of, MaybeUninit};
+use std::{env, fs, slice};
+
+/// The crate's own declarations of what the archive has, for the tests that look at every byte.
+#[path = "../src/library.rs"]
+#[allow(dead_code)]
+mod library;
 
 const SPEECH: Figures = Figures { probability: 0.95, rms: -20.0, peak: -12.0, noise: -80.0, envelope: -60.0 };
 const PAUSE: Figures = Figures { probability: 0.05, rms: -70.0, peak: -60.0, noise: -80.0, envelope: -60.0 };
@@ -120,6 +126,240 @@ fn a_refusal_has_its_number_and_changes_nothing() {
     let (mut a, mut b, mut other) = (tone(900.0, 160, 2, 2), tone(900.0, 160, 2, 2), kept);
     assert_eq!(chain.step(&SPEECH, &mut a, 2), other.step(&SPEECH, &mut b, 2));
     assert_eq!(a, b);
-    assert_eq!(Refusal::Sample.number(), 3);
+    assert_eq!(Refusal::Sample.number(), Some(3));
     assert!(Refusal::Shape.to_string().contains("refused with 1"));
+}
+
+const SAMPLES: usize = 160;
+const CHANNELS: usize = 2;
+const LENGTH: usize = CHANNELS * SAMPLES;
+
+/// Memory for a struct of the archive, each byte of it the same.
+fn filled<T>(pattern: u8) -> T {
+    let mut memory = MaybeUninit::<T>::uninit();
+    // SAFETY: the structs of the archive are plain numbers without holes, of which any bytes are a value.
+    unsafe {
+        memory.as_mut_ptr().write_bytes(pattern, 1);
+        memory.assume_init()
+    }
+}
+
+fn bytes<T>(of: &T) -> &[u8] {
+    // SAFETY: as above.
+    unsafe { slice::from_raw_parts((of as *const T).cast(), size_of::<T>()) }
+}
+
+fn bytes_mut<T>(of: &mut T) -> &mut [u8] {
+    // SAFETY: as above.
+    unsafe { slice::from_raw_parts_mut((of as *mut T).cast(), size_of::<T>()) }
+}
+
+/// A random number, the same in every run: xorshift.
+struct Drawn(u32);
+
+impl Drawn {
+    fn next(&mut self) -> usize {
+        self.0 ^= self.0 << 13;
+        self.0 ^= self.0 >> 17;
+        self.0 ^= self.0 << 5;
+        self.0 as usize
+    }
+}
+
+/// The bits of a frame, since a NaN does not equal itself.
+fn bits(frame: &[f32]) -> Vec<u32> {
+    frame.iter().map(|x| x.to_bits()).collect()
+}
+
+/// One step of the chain. Where it is refused, no byte of the chain or the frame may change, and each of the answer is 0.
+fn step(chain: &mut library::Chain, figures: &Figures, frame: &mut [f32], channels: usize, samples: usize) -> u32 {
+    let (before, sound, mut answer) = (*chain, bits(frame), filled::<library::Answer>(0xAA));
+    // SAFETY: the references are to whole structs, and the frame is handed on with its length.
+    let reply = unsafe {
+        library::murzicanu_chain_step(chain, figures, frame.as_mut_ptr(), frame.len(), channels, samples, &mut answer)
+    };
+    if reply != 0 {
+        assert_eq!(bytes(chain), bytes(&before));
+        assert_eq!(bits(frame), sound);
+        assert!(bytes(&answer).iter().all(|b| *b == 0));
+    }
+    reply
+}
+
+/// One step of the limiter, and the same of it.
+fn limit(limiter: &mut library::Limiter, frame: &mut [f32], channels: usize, samples: usize) -> u32 {
+    let (before, sound) = (*limiter, bits(frame));
+    // SAFETY: as above.
+    let reply =
+        unsafe { library::murzicanu_limiter_step(limiter, frame.as_mut_ptr(), frame.len(), channels, samples) };
+    if reply != 0 {
+        assert_eq!(bytes(limiter), bytes(&before));
+        assert_eq!(bits(frame), sound);
+    }
+    reply
+}
+
+fn read_chain(chain: &library::Chain, pattern: u8) -> (u32, Vec<u8>) {
+    let mut now = filled::<library::Published>(pattern);
+    // SAFETY: as above.
+    let reply = unsafe { library::murzicanu_chain_read(chain, &mut now) };
+    (reply, bytes(&now).to_vec())
+}
+
+fn read_limiter(limiter: &library::Limiter, pattern: u8) -> (u32, Vec<u8>) {
+    let mut level = filled::<f32>(pattern);
+    // SAFETY: as above.
+    let reply = unsafe { library::murzicanu_limiter_read(limiter, &mut level) };
+    (reply, bytes(&level).to_vec())
+}
+
+fn new_chain(pattern: u8, settings: &Settings, threshold: u32, samples: usize) -> (u32, library::Chain) {
+    let mut chain = filled(pattern);
+    // SAFETY: as above.
+    let reply = unsafe { library::murzicanu_chain_new(&mut chain, settings, threshold, samples) };
+    (reply, chain)
+}
+
+fn new_limiter(pattern: u8, samples: usize) -> (u32, library::Limiter) {
+    let mut limiter = filled(pattern);
+    // SAFETY: as above.
+    let reply = unsafe { library::murzicanu_limiter_new(&mut limiter, samples) };
+    (reply, limiter)
+}
+
+/// A chain and a limiter that were made over a pattern and have heard some frames.
+fn made(pattern: u8, frames: usize) -> (library::Chain, library::Limiter) {
+    let (reply, mut chain) = new_chain(pattern, &Settings::default(), 12, SAMPLES);
+    let (other, mut limiter) = new_limiter(pattern, SAMPLES);
+    assert_eq!((reply, other), (0, 0));
+    for k in 0..frames {
+        assert_eq!(step(&mut chain, &SPEECH, &mut tone(20000.0, SAMPLES, CHANNELS, k), CHANNELS, SAMPLES), 0);
+        assert_eq!(limit(&mut limiter, &mut tone(20000.0, SAMPLES, CHANNELS, k), CHANNELS, SAMPLES), 0);
+    }
+    (chain, limiter)
+}
+
+/// Where the numbers of the kept chain and limiter stand, as the header's assertions have it.
+const CONFIDENT: usize = 56;
+const PLACE: usize = 64 + 52 + 20;
+const CLIP: usize = 64 + 88;
+const OF_LIMITER: usize = 64 + 88 + 56;
+const OWN_SAMPLES: usize = 4;
+const AVAILABLE: usize = 16 + 32;
+
+#[test]
+fn the_archive_has_the_version_of_the_crate() {
+    // SAFETY: the function takes nothing.
+    assert_eq!(unsafe { library::murzicanu_version() }, VERSION);
+}
+
+#[test]
+fn every_byte_is_determined() {
+    for frames in [0, 50, 100] {
+        let ((a, b), (c, d)) = (made(0xAA, frames), made(0x55, frames));
+        assert_eq!((bytes(&a), bytes(&b)), (bytes(&c), bytes(&d)));
+        assert_eq!((read_chain(&a, 0xAA), read_limiter(&b, 0xAA)), (read_chain(&c, 0x55), read_limiter(&d, 0x55)));
+        assert_eq!((read_chain(&a, 0xAA).0, read_limiter(&b, 0xAA).0), (0, 0));
+        assert_eq!((bytes(&a), bytes(&b)), (bytes(&c), bytes(&d)));
+    }
+    for (settings, threshold, samples, due) in [
+        (Settings::default(), 12, 441, 1),
+        (Settings::default(), 0, SAMPLES, 4),
+        (Settings { noise: -0.0, ..Settings::default() }, 12, SAMPLES, 4),
+    ] {
+        let (reply, chain) = new_chain(0xAA, &settings, threshold, samples);
+        assert_eq!(reply, due);
+        assert!(bytes(&chain).iter().all(|b| *b == 0));
+    }
+    let (reply, limiter) = new_limiter(0xAA, 500);
+    assert_eq!(reply, 1);
+    assert!(bytes(&limiter).iter().all(|b| *b == 0));
+}
+
+#[test]
+fn each_kind_of_refusal_changes_no_byte() {
+    let (mut chain, mut limiter) = made(0xAA, 20);
+    let mut frame = tone(20000.0, SAMPLES, CHANNELS, 20);
+    assert_eq!(step(&mut chain, &SPEECH, &mut frame, 3, SAMPLES), 1);
+    assert_eq!(step(&mut chain, &Figures { peak: f32::NAN, ..SPEECH }, &mut frame, CHANNELS, SAMPLES), 2);
+    assert_eq!(limit(&mut limiter, &mut frame[1..], CHANNELS, SAMPLES), 1);
+    frame[LENGTH - 1] = f32::NAN;
+    assert_eq!(step(&mut chain, &SPEECH, &mut frame, CHANNELS, SAMPLES), 3);
+    assert_eq!(limit(&mut limiter, &mut frame, CHANNELS, SAMPLES), 3);
+    frame[LENGTH - 1] = 0.0;
+    for (place, byte) in [(CONFIDENT, 2), (PLACE, 4), (CLIP + 3, 1), (OF_LIMITER + OWN_SAMPLES + 6, 1), (OF_LIMITER + AVAILABLE, 7)] {
+        let mut other = chain;
+        bytes_mut(&mut other)[place] = byte;
+        assert_eq!(step(&mut other, &SPEECH, &mut frame, CHANNELS, SAMPLES), 4, "byte {place}");
+        assert_eq!(read_chain(&other, 0xAA), (4, vec![0; 16]));
+    }
+    let mut other = limiter;
+    bytes_mut(&mut other)[AVAILABLE] = 7;
+    assert_eq!(limit(&mut other, &mut frame, CHANNELS, SAMPLES), 4);
+    assert_eq!(read_limiter(&other, 0xAA), (4, vec![0; 4]));
+    // A chain that was never made: the samples differ first.
+    assert_eq!(step(&mut filled(0), &SPEECH, &mut frame, CHANNELS, SAMPLES), 1);
+    assert_eq!(step(&mut filled(0xAA), &SPEECH, &mut frame, CHANNELS, SAMPLES), 1);
+    assert_eq!(limit(&mut filled(0), &mut frame, CHANNELS, SAMPLES), 1);
+    assert_eq!(read_chain(&filled(0), 0xAA).0, 4);
+    assert_eq!(read_limiter(&filled(0), 0xAA).0, 4);
+}
+
+#[test]
+fn ten_thousand_refused_calls_change_no_byte() {
+    let wrong = [f32::NAN, f32::INFINITY, f32::NEG_INFINITY, 1.0e30, -151.0, 101.0];
+    let (mut chain, mut limiter) = made(0xAA, 20);
+    let (first, second) = (chain, limiter);
+    let sound = tone(20000.0, SAMPLES, CHANNELS, 20);
+    let (mut frame, mut random, mut calls, mut seen) = (sound.clone(), Drawn(2463534242), 0, [0; 5]);
+    while calls < 10_000 {
+        let kind = 1 + random.next() % 4;
+        let (mut figures, mut channels, mut samples, mut length) = (SPEECH, CHANNELS, SAMPLES, LENGTH);
+        let (mut damaged, mut cracked, place) = (chain, limiter, random.next() % LENGTH);
+        let (mut due, mut other) = (kind as u32, kind as u32);
+        match kind {
+            1 => match random.next() % 3 {
+                0 => channels = 3 + random.next() % 1000,
+                1 => samples = 40 + 20 * (random.next() % 6),
+                _ => length = random.next() % LENGTH,
+            },
+            2 => {
+                let field = [
+                    &mut figures.probability,
+                    &mut figures.rms,
+                    &mut figures.peak,
+                    &mut figures.noise,
+                    &mut figures.envelope,
+                ];
+                *field.into_iter().nth(random.next() % 5).unwrap() = wrong[random.next() % 6];
+            }
+            3 => frame[place] = wrong[random.next() % 4],
+            _ => {
+                bytes_mut(&mut damaged)[random.next() % size_of::<library::Chain>()] ^= 1 + (random.next() % 255) as u8;
+                bytes_mut(&mut cracked)[random.next() % size_of::<library::Limiter>()] ^= 1 + (random.next() % 255) as u8;
+                // One that still passes its test is no case of this.
+                if read_chain(&damaged, 0xAA).0 == 0 || read_limiter(&cracked, 0xAA).0 == 0 {
+                    continue;
+                }
+                let (at, end) = (OF_LIMITER + OWN_SAMPLES, OF_LIMITER + OWN_SAMPLES + 4);
+                if bytes(&damaged)[at..end] != bytes(&chain)[at..end] {
+                    due = 1;
+                }
+                if bytes(&cracked)[OWN_SAMPLES..OWN_SAMPLES + 4] != bytes(&limiter)[OWN_SAMPLES..OWN_SAMPLES + 4] {
+                    other = 1;
+                }
+            }
+        }
+        let (state, alone) = if kind == 4 { (&mut damaged, &mut cracked) } else { (&mut chain, &mut limiter) };
+        assert_eq!(step(state, &figures, &mut frame[..length], channels, samples), due);
+        seen[due as usize] += 1;
+        calls += 1;
+        if kind != 2 {
+            assert_eq!(limit(alone, &mut frame[..length], channels, samples), other);
+            calls += 1;
+        }
+        frame[place] = sound[place];
+    }
+    assert!(seen[1..].iter().all(|n| *n > 500), "{seen:?}");
+    assert_eq!((bytes(&chain), bytes(&limiter), frame), (bytes(&first), bytes(&second), sound));
 }

@@ -4,7 +4,7 @@ use mathlib.Core.Path.{_≡_, refl, sym, ap, _∙_}
 use mathlib.Core.Bool.{Bool, true, false, _&&_, cond}
 use mathlib.Core.List.{List}
 use Prim.Native.Nat.{ℕ}
-use borrow.Author.Tests.{ne-eqb, eqb-false}
+use borrow.Author.Tests.{eq-eqb, ne-eqb, eqb-false}
 use lib.Dec.{eqb}
 use lib.ListN.{length}
 use lib.Ieee.{Float}
@@ -23,9 +23,8 @@ use Rattle.chain.specs.Calls as Chaining
 use Rattle.chain.specs.Laws.Calls.{called-refused}
 use Rattle.chain.specs.declared.Chain.{Chain}
 use Rattle.chain.specs.declared.Next.{Next as ChainNext}
-use Rattle.kept.specs.States.{soundLimiter, limiterOf, keptLimiter, soundChain, chainOf, keptChain}
+use Rattle.kept.specs.States.{envelopeOf, soundLimiter, limiterOf, keptLimiter, soundChain, chainOf, keptChain}
 use Rattle.kept.specs.Calls.{limiterPasses, LimiterStepped, limiterStepped, chainPasses, keptAnswer, ChainStepped, chainStepped}
-use Rattle.kept.specs.Laws.States.{limiter-back, chain-back}
 use Rattle.kept.specs.declared.states.KeptLimiter.{KeptLimiter}
 use Rattle.kept.specs.declared.states.KeptChain.{KeptChain}
 use Rattle.kept.specs.declared.calls.KeptAnswer.{KeptAnswer}
@@ -72,15 +71,9 @@ unfoldable pub keptStep : Limiting.Processed → LimiterStepped
 keptStep p = record { next = record { reply = p .next .reply; limiter = keptLimiter (p .next .limiter) }; frame = p .frame }
 
 limiter-stays : (l : Limiter) (frame : List Float) (channels samples : ℕ) → eqb (Limiting.processed l frame channels samples .next .reply) done ≡ false
-    → (Limiting.processed l frame channels samples .next .limiter ≡ l) × (Limiting.processed l frame channels samples .frame ≡ frame)
+    → Limiting.processed l frame channels samples .frame ≡ frame
 unfolding Limiting.processed
-limiter-stays l frame channels samples h = (rw h, rw h)
-
-limiter-by-inside : (b : Bool) (k : KeptLimiter) (p : Limiting.Processed) (frame : List Float) → eqb (p .next .reply) done ≡ b
-    → (b ≡ false → (keptLimiter (p .next .limiter) ≡ k) × (p .frame ≡ frame)) → limiterBy (p .next .reply) k p frame ≡ keptStep p
-unfolding limiterBy keptStep
-limiter-by-inside true k p frame e h = rw e
-limiter-by-inside false k p frame e h = rw (e, h refl .0, h refl .1)
+limiter-stays l frame channels samples h = rw h
 
 module _ (k : KeptLimiter) (frame : List Float) (channels samples : ℕ) where
   limiter-by : limiterStepped k frame channels samples
@@ -106,26 +99,48 @@ module _ (k : KeptLimiter) (frame : List Float) (channels samples : ℕ) where
       ∙ ap (λ (r : ℕ). limiterBy r k (Limiting.processed (limiterOf k) frame channels samples) frame) (failing frame channels samples set (limiterPasses k) true largestLevel (limiter-fails k h))
       ∙ rw (not-done shape)
 
+  abbrev limited : Limiting.Processed
+  limited = Limiting.processed (limiterOf k) frame channels samples
+
   same-reply : soundLimiter k ≡ true
-      → frameRefusal frame channels samples (eqb samples (k .estimator .samples)) (limiterPasses k) true largestLevel ≡ Limiting.processed (limiterOf k) frame channels samples .next .reply
-  unfolding Limiting.processed limiterOf
+      → frameRefusal frame channels samples (eqb samples (k .estimator .samples)) (limiterPasses k) true largestLevel ≡ limited .next .reply
+  unfolding Limiting.processed limiterOf envelopeOf
   same-reply h = ap (λ (b : Bool). frameRefusal frame channels samples (eqb samples (k .estimator .samples)) b true largestLevel) (limiter-passes-inside k h)
 
-  -- Where it is one, the step is that of the limiter inside.
-  pub limiter-inside : soundLimiter k ≡ true → limiterStepped k frame channels samples ≡ keptStep (Limiting.processed (limiterOf k) frame channels samples)
-  limiter-inside h =
-      let p = Limiting.processed (limiterOf k) frame channels samples in
-      limiter-by
-      ∙ ap (λ (r : ℕ). limiterBy r k p frame) (same-reply h)
-      ∙ limiter-by-inside (eqb (p .next .reply) done) k p frame refl (λ (e : eqb (p .next .reply) done ≡ false). let s = limiter-stays (limiterOf k) frame channels samples e in (ap keptLimiter (s .0) ∙ limiter-back k h, s .1))
+  limiter-by-reply : soundLimiter k ≡ true → limiterStepped k frame channels samples ≡ limiterBy (limited .next .reply) k limited frame
+  limiter-by-reply h = limiter-by ∙ ap (λ (r : ℕ). limiterBy r k limited frame) (same-reply h)
 
-  -- What the code's calls come to is the definition's.
+  -- Where it is one, and its step is done, the step is that of the limiter inside.
+  pub limiter-inside : soundLimiter k ≡ true → limited .next .reply ≡ done → limiterStepped k frame channels samples ≡ keptStep limited
+  unfolding limiterBy keptStep
+  limiter-inside h d = limiter-by-reply h ∙ rw (eq-eqb (limited .next .reply) done d)
+
+  -- and where its step is refused, nothing changes
+  limiter-not-inside : soundLimiter k ≡ true → (limited .next .reply ≡ done → ⊥)
+      → limiterStepped k frame channels samples ≡ record { next = record { reply = limited .next .reply; limiter = k }; frame = frame }
+  unfolding limiterBy
+  limiter-not-inside h n = limiter-by-reply h ∙ rw (ne-eqb (limited .next .reply) done n)
+
+  -- What the code's calls come to is the definition's: where the limiter's step is done,
   pub limiter-joined : {l : Limiter} {n : LimiterNext} {a : KeptLimiter} {out : List Float} → soundLimiter k ≡ true → l ≡ limiterOf k
-      → n ≡ Limiting.processed l frame channels samples .next → out ≡ Limiting.processed l frame channels samples .frame → a ≡ keptLimiter (n .limiter)
-      → (_≡_ {A = NewLimiter} (record { reply = n .reply; limiter = a }) (limiterStepped k frame channels samples .next)) × (out ≡ limiterStepped k frame channels samples .frame)
+      → n ≡ Limiting.processed l frame channels samples .next → out ≡ Limiting.processed l frame channels samples .frame → n .reply ≡ done → a ≡ keptLimiter (n .limiter)
+      → (_≡_ {A = NewLimiter} (record { reply = done; limiter = a }) (limiterStepped k frame channels samples .next)) × (out ≡ limiterStepped k frame channels samples .frame)
   unfolding keptStep
-  limiter-joined h el en eo ea = rw (ea, en, eo, el, limiter-inside h) (refl, refl)
+  limiter-joined h el en eo d ea =
+      let d′ : limited .next .reply ≡ done = sym (ap (λ (z : Limiter). Limiting.processed z frame channels samples .next .reply) el) ∙ sym (ap (λ (z : LimiterNext). z .reply) en) ∙ d in
+      rw (ea, en, eo, el, limiter-inside h d′, d′) (refl, refl)
 
+  -- where it is refused,
+  pub limiter-let-be : {l : Limiter} {n : LimiterNext} {out : List Float} → soundLimiter k ≡ true → l ≡ limiterOf k
+      → n ≡ Limiting.processed l frame channels samples .next → out ≡ Limiting.processed l frame channels samples .frame → (n .reply ≡ done → ⊥)
+      → (_≡_ {A = NewLimiter} (record { reply = n .reply; limiter = k }) (limiterStepped k frame channels samples .next)) × (out ≡ limiterStepped k frame channels samples .frame)
+  limiter-let-be {l} {n} {out} h el en eo d =
+      let r : n .reply ≡ limited .next .reply = ap (λ (z : LimiterNext). z .reply) en ∙ ap (λ (z : Limiter). Limiting.processed z frame channels samples .next .reply) el in
+      let d′ : limited .next .reply ≡ done → ⊥ = λ (e : limited .next .reply ≡ done). d (r ∙ e) in
+      let same : out ≡ frame = eo ∙ ap (λ (z : Limiter). Limiting.processed z frame channels samples .frame) el ∙ limiter-stays (limiterOf k) frame channels samples (ne-eqb (limited .next .reply) done d′) in
+      rw (r, same, limiter-not-inside h d′) (refl, refl)
+
+  -- and where what is kept is no limiter.
   pub limiter-turned-away : {r : ℕ} → soundLimiter k ≡ false → r ≡ refusal (isShape channels samples (length frame) && eqb samples (k .estimator .samples)) false true true
       → (_≡_ {A = NewLimiter} (record { reply = r; limiter = k }) (limiterStepped k frame channels samples .next)) × (frame ≡ limiterStepped k frame channels samples .frame) × (r ≡ done → ⊥)
   limiter-turned-away {r} h e =
@@ -161,22 +176,12 @@ chainBy reply k c frame =
 unfoldable pub keptCall : Chaining.Called → ChainStepped
 keptCall c = record { next = record { reply = c .told .reply; answer = keptAnswer (c .told .answer); chain = keptChain (c .told .chain) }; frame = c .frame }
 
-record Stays (c : Chaining.Called) (k : KeptChain) (frame : List Float) : Type 0 where
-  pub answer : c .told .answer ≡ nonSpeech
-  pub chain : keptChain (c .told .chain) ≡ k
-  pub sound : c .frame ≡ frame
-
-chain-by-inside : (b : Bool) (k : KeptChain) (c : Chaining.Called) (frame : List Float) → eqb (c .told .reply) done ≡ b → (b ≡ false → Stays c k frame) → chainBy (c .told .reply) k c frame ≡ keptCall c
-unfolding chainBy keptCall
-chain-by-inside true k c frame e h = rw e
-chain-by-inside false k c frame e h = let s = h refl in rw (e, s .answer, s .chain, s .sound)
-
 module _ (k : KeptChain) (f : Figures) (frame : List Float) (channels samples : ℕ) where
   abbrev inside : Chaining.Called
   inside = Chaining.called (chainOf k) f frame channels samples
 
   chain-by : chainStepped k f frame channels samples
-      ≡ chainBy (frameRefusal frame channels samples (eqb samples (k .limiter .estimator .samples)) (chainPasses k) (accepted f) largestInput) k inside frame
+      ≡ chainBy (frameRefusal frame channels samples (eqb samples (Chains.samplesOf (chainOf k))) (chainPasses k) (accepted f) largestInput) k inside frame
   unfolding chainStepped chainBy
   chain-by = refl
 
@@ -190,12 +195,12 @@ module _ (k : KeptChain) (f : Figures) (frame : List Float) (channels samples : 
   pub chain-unsound : soundChain k ≡ false
       → chainStepped k f frame channels samples
       ≡ record {
-        next = record { reply = refusal (isShape channels samples (length frame) && eqb samples (k .limiter .estimator .samples)) false true true; answer = keptAnswer nonSpeech; chain = k };
+        next = record { reply = refusal (isShape channels samples (length frame) && eqb samples (Chains.samplesOf (chainOf k))) false true true; answer = keptAnswer nonSpeech; chain = k };
         frame = frame;
       }
   unfolding chainBy
   chain-unsound h =
-      let set = eqb samples (k .limiter .estimator .samples) in
+      let set = eqb samples (Chains.samplesOf (chainOf k)) in
       let shape = isShape channels samples (length frame) && set in
       chain-by
       ∙ ap (λ (r : ℕ). chainBy r k inside frame) (failing frame channels samples set (chainPasses k) (accepted f) largestInput (chain-fails k h))
@@ -205,46 +210,57 @@ module _ (k : KeptChain) (f : Figures) (frame : List Float) (channels samples : 
   unfolding Chaining.called
   called-reply = refl
 
-  module _ (h : soundChain k ≡ true) where
-    inside-reply : frameRefusal frame channels samples (eqb samples (k .limiter .estimator .samples)) (chainPasses k) (accepted f) largestInput ≡ Chaining.refused (chainOf k) f frame channels samples
-    unfolding Chaining.refused chainOf limiterOf
-    inside-reply = ap (λ (b : Bool). frameRefusal frame channels samples (eqb samples (k .limiter .estimator .samples)) b (accepted f) largestInput) (chain-passes-inside k h)
+  inside-reply : soundChain k ≡ true
+      → frameRefusal frame channels samples (eqb samples (Chains.samplesOf (chainOf k))) (chainPasses k) (accepted f) largestInput ≡ inside .told .reply
+  unfolding Chaining.refused
+  inside-reply h = ap (λ (b : Bool). frameRefusal frame channels samples (eqb samples (Chains.samplesOf (chainOf k))) b (accepted f) largestInput) (chain-passes-inside k h) ∙ called-reply
 
-    stays : eqb (inside .told .reply) done ≡ false → Stays inside k frame
-    stays e =
-        let s = called-refused (chainOf k) f frame channels samples called-reply (eqb-false (inside .told .reply) done e) in
-        record {
-          answer = ap (λ (z : Chaining.Called). z .told .answer) s;
-          chain = ap (λ (z : Chaining.Called). keptChain (z .told .chain)) s ∙ chain-back k h;
-          sound = ap (λ (z : Chaining.Called). z .frame) s;
-        }
+  chain-by-reply : soundChain k ≡ true → chainStepped k f frame channels samples ≡ chainBy (inside .told .reply) k inside frame
+  chain-by-reply h = chain-by ∙ ap (λ (r : ℕ). chainBy r k inside frame) (inside-reply h)
 
-    -- Where it is one, the step is that of the chain inside.
-    pub chain-inside : chainStepped k f frame channels samples ≡ keptCall inside
-    chain-inside =
-        chain-by ∙ ap (λ (r : ℕ). chainBy r k inside frame) (inside-reply ∙ called-reply)
-        ∙ chain-by-inside (eqb (inside .told .reply) done) k inside frame refl stays
+  -- Where it is one, and its step is done, the step is that of the chain inside.
+  pub chain-inside : soundChain k ≡ true → inside .told .reply ≡ done → chainStepped k f frame channels samples ≡ keptCall inside
+  unfolding chainBy keptCall
+  chain-inside h d = chain-by-reply h ∙ rw (eq-eqb (inside .told .reply) done d)
 
-  -- What the code's calls come to is the definition's.
+  -- and where its step is refused, nothing changes
+  chain-not-inside : soundChain k ≡ true → (inside .told .reply ≡ done → ⊥)
+      → chainStepped k f frame channels samples ≡ record { next = record { reply = inside .told .reply; answer = keptAnswer nonSpeech; chain = k }; frame = frame }
+  unfolding chainBy
+  chain-not-inside h n = chain-by-reply h ∙ rw (ne-eqb (inside .told .reply) done n)
+
+  -- What the code's calls come to is the definition's: where the chain's step is done,
   pub chain-joined : {c : Chain} (n : ChainNext) {t : KeptAnswer} {a : KeptChain} {out : List Float} → soundChain k ≡ true → c ≡ chainOf k
-      → Chaining.told n ≡ Chaining.called c f frame channels samples .told → out ≡ Chaining.called c f frame channels samples .frame → t ≡ keptAnswer (said (n .answer)) → a ≡ keptChain (n .chain)
-      → (_≡_ {A = NextChain} (record { reply = n .reply; answer = t; chain = a }) (chainStepped k f frame channels samples .next)) × (out ≡ chainStepped k f frame channels samples .frame)
+      → Chaining.told n ≡ Chaining.called c f frame channels samples .told → out ≡ Chaining.called c f frame channels samples .frame → n .reply ≡ done → t ≡ keptAnswer (said (n .answer)) → a ≡ keptChain (n .chain)
+      → (_≡_ {A = NextChain} (record { reply = done; answer = t; chain = a }) (chainStepped k f frame channels samples .next)) × (out ≡ chainStepped k f frame channels samples .frame)
   unfolding keptCall Chaining.told
-  chain-joined n h ec en eo et ea =
+  chain-joined n h ec en eo d et ea =
       let same = en ∙ ap (λ (z : Chain). Chaining.called z f frame channels samples .told) ec in
-      let r = ap (λ (z : Chaining.Told). z .reply) same in
-      let t' = et ∙ ap (λ (z : Chaining.Told). keptAnswer (z .answer)) same in
-      let a' = ea ∙ ap (λ (z : Chaining.Told). keptChain (z .chain)) same in
-      let next : _≡_ {A = NextChain} (record { reply = n .reply; answer = _; chain = _ }) (keptCall inside .next) = λ i. record { reply = r i; answer = t' i; chain = a' i } in (
-        next ∙ sym (ap (λ (z : ChainStepped). z .next) (chain-inside h)),
-        eo ∙ ap (λ (z : Chain). Chaining.called z f frame channels samples .frame) ec ∙ sym (ap (λ (z : ChainStepped). z .frame) (chain-inside h)),
+      let r = sym d ∙ ap (λ (z : Chaining.Told). z .reply) same in
+      let t′ = et ∙ ap (λ (z : Chaining.Told). keptAnswer (z .answer)) same in
+      let a′ = ea ∙ ap (λ (z : Chaining.Told). keptChain (z .chain)) same in
+      let next : _≡_ {A = NextChain} (record { reply = done; answer = _; chain = _ }) (keptCall inside .next) = λ i. record { reply = r i; answer = t′ i; chain = a′ i } in (
+        next ∙ sym (ap (λ (z : ChainStepped). z .next) (chain-inside h (sym r))),
+        eo ∙ ap (λ (z : Chain). Chaining.called z f frame channels samples .frame) ec ∙ sym (ap (λ (z : ChainStepped). z .frame) (chain-inside h (sym r))),
       )
 
-  pub chain-turned-away : {r : ℕ} → soundChain k ≡ false → r ≡ refusal (isShape channels samples (length frame) && eqb samples (k .limiter .estimator .samples)) false true true
-      → (_≡_ {A = NextChain} (record { reply = r; answer = keptAnswer nonSpeech; chain = k }) (chainStepped k f frame channels samples .next)) × (frame ≡ chainStepped k f frame channels samples .frame) × (r ≡ done → ⊥)
-  chain-turned-away {r} h e =
+  -- where it is refused,
+  pub chain-let-be : {c : Chain} (n : ChainNext) {t : KeptAnswer} {out : List Float} → soundChain k ≡ true → c ≡ chainOf k
+      → Chaining.told n ≡ Chaining.called c f frame channels samples .told → out ≡ Chaining.called c f frame channels samples .frame → (n .reply ≡ done → ⊥) → t ≡ keptAnswer nonSpeech
+      → (_≡_ {A = NextChain} (record { reply = n .reply; answer = t; chain = k }) (chainStepped k f frame channels samples .next)) × (out ≡ chainStepped k f frame channels samples .frame)
+  unfolding Chaining.told
+  chain-let-be {c} n {t} {out} h ec en eo d et =
+      let r : n .reply ≡ inside .told .reply = ap (λ (z : Chaining.Told). z .reply) (en ∙ ap (λ (z : Chain). Chaining.called z f frame channels samples .told) ec) in
+      let d′ : inside .told .reply ≡ done → ⊥ = λ (e : inside .told .reply ≡ done). d (r ∙ e) in
+      let same : out ≡ frame = eo ∙ ap (λ (z : Chain). Chaining.called z f frame channels samples .frame) ec ∙ ap (λ (z : Chaining.Called). z .frame) (called-refused (chainOf k) f frame channels samples called-reply d′) in
+      rw (r, et, same, chain-not-inside h d′) (refl, refl)
+
+  -- and where what is kept is no chain.
+  pub chain-turned-away : {r : ℕ} {t : KeptAnswer} → soundChain k ≡ false → t ≡ keptAnswer nonSpeech → r ≡ refusal (isShape channels samples (length frame) && eqb samples (Chains.samplesOf (chainOf k))) false true true
+      → (_≡_ {A = NextChain} (record { reply = r; answer = t; chain = k }) (chainStepped k f frame channels samples .next)) × (frame ≡ chainStepped k f frame channels samples .frame) × (r ≡ done → ⊥)
+  chain-turned-away {r} h a e =
       let u = chain-unsound h in (
-        ap (λ (n : ℕ). record { reply = n; answer = keptAnswer nonSpeech; chain = k }) e ∙ sym (ap (λ (z : ChainStepped). z .next) u),
+        (λ i. record { reply = e i; answer = a i; chain = k }) ∙ sym (ap (λ (z : ChainStepped). z .next) u),
         sym (ap (λ (z : ChainStepped). z .frame) u),
-        eqb-false r done (ap (λ (n : ℕ). eqb n done) e ∙ not-done (isShape channels samples (length frame) && eqb samples (k .limiter .estimator .samples))),
+        eqb-false r done (ap (λ (n : ℕ). eqb n done) e ∙ not-done (isShape channels samples (length frame) && eqb samples (Chains.samplesOf (chainOf k)))),
       )

@@ -1,16 +1,38 @@
--- What is kept comes back, both ways, and is sound. Laws.
+-- What is kept comes back, both ways, where it passes, and is sound. Laws.
 -- Assumes nothing.
 use mathlib.Core.Path.{_≡_, refl, sym}
 use mathlib.Core.Bool.{Bool, true, false, cond}
 use mathlib.Core.List.{[], _∷_}
-use Prim.Native.Nat.{ℕ, _≤_}
+use Prim.Native.Nat.{ℕ, _≤_, _<_, _/_, _%_}
+use native.Mathlib.Nat.{mod-eq-of-lt}
 use native.Mathlib.Omega.{arith}
-use borrow.Author.Tests.{leb-true, eqb-true, eqb-false}
-use lib.Dec.{eqb}
+use borrow.Author.Tests.{leb-true, ltb-true, eqb-true, eqb-false}
+use lib.Dec.{eqb, leb}
+use lib.Ieee.{eq}
 use Rattle.lists.specs.Tests.{each-of, _and_}
+use Rattle.units.specs.Figures.{level, headroom, curveLevel}
+use Rattle.units.specs.Settings.{threshold}
+use Rattle.frames.specs.Shape.{isSamples}
+use Rattle.speech_level_estimator.specs.Estimator as Level
+use Rattle.adaptive_digital_gain_controller.specs.Controller as Gain
+use Rattle.saturation_protector_buffer.specs.Ring as Rings
+use Rattle.saturation_protector_buffer.specs.Rings.{fitsRing}
+use Rattle.saturation_protector_buffer.specs.declared.Ring.{Ring}
+use Rattle.saturation_protector.specs.Peaks as Peaking
+use Rattle.saturation_protector.specs.Protector as Headroom
+use Rattle.saturation_protector.specs.declared.Peaks.{Peaks}
+use Rattle.saturation_protector.specs.declared.Protector.{Protector}
+use Rattle.fixed_digital_level_estimator.specs.Estimator as Envelopes
+use Rattle.fixed_digital_level_estimator.specs.declared.Estimator.{Estimator}
+use Rattle.limiter.specs.Limiter as Limiting
 use Rattle.limiter.specs.declared.Limiter.{Limiter}
+use Rattle.chain.specs.Chain as Chains
 use Rattle.chain.specs.declared.Chain.{Chain}
-use Rattle.kept.specs.States.{isFlag, flagOf, numberOf, soundLimiter, limiterOf, keptLimiter, soundChain, chainOf, keptChain}
+use Rattle.kept.specs.States.{isFlag, flagOf, numberOf, narrow, ringOf, keptRing, peaksOf, keptPeaks, protectorOf, keptProtector, envelopeOf, keptEnvelope, soundLimiter, limiterOf, keptLimiter, soundChain, chainOf, keptChain}
+use Rattle.kept.specs.declared.states.KeptRing.{KeptRing}
+use Rattle.kept.specs.declared.states.KeptPeaks.{KeptPeaks}
+use Rattle.kept.specs.declared.states.KeptProtector.{KeptProtector}
+use Rattle.kept.specs.declared.states.KeptEnvelope.{KeptEnvelope}
 use Rattle.kept.specs.declared.states.KeptLimiter.{KeptLimiter}
 use Rattle.kept.specs.declared.states.KeptChain.{KeptChain}
 
@@ -37,27 +59,133 @@ pub number-back : (n : ℕ) → isFlag n ≡ true → numberOf (flagOf n) ≡ n
 unfolding isFlag flagOf numberOf
 number-back n h = zero-or-one n (eqb n 1) refl (leb-true n 1 h)
 
+-- ---- a number of 64 bits
+-- It has no more than 32.
+abbrev pub Small : ℕ → Type 0
+Small n = n < 4294967296
+
+-- Then what is kept of it is the number itself.
+pub narrow-small : (n : ℕ) → Small n → narrow n ≡ n
+unfolding narrow
+narrow-small n h = mod-eq-of-lt h
+
+-- ---- the headroom
+pub record SmallRing (r : Ring) : Type 0 where
+  pub place : Small (r .place)
+  pub size : Small (r .size)
+
+-- The numbers of a ring that passes are small: it has four places.
+ring-small : (r : Ring) → Rings.passes r ≡ true → SmallRing r
+unfolding Rings.passes fitsRing
+ring-small r h =
+    let p = each-of (_ ∷ _ ∷ _ ∷ []) h in
+    let place : r .place < 4 = ltb-true (r .place) 4 (p 0) in
+    let size : r .size ≤ 4 = leb-true (r .size) 4 (p 1) in
+    record { place = omega arith; size = omega arith }
+
+peaks-small : (s : Peaks) → Peaking.passes s ≡ true → SmallRing (s .ring)
+unfolding Peaking.passes
+peaks-small s h =
+    ring-small (s .ring) (each-of (headroom (s .headroom) ∷ Rings.passes (s .ring) ∷ Peaking.allLevels (s .ring .stored) ∷ level (s .largest) ∷ Peaking.time (s .elapsed) ∷ []) h 1)
+
+pub record SmallProtector (s : Protector) : Type 0 where
+  pub preliminary : SmallRing (s .preliminary .ring)
+  pub reliable : SmallRing (s .reliable .ring)
+
+pub protector-small : (s : Protector) → Headroom.passes s ≡ true → SmallProtector s
+unfolding Headroom.passes
+protector-small s h =
+    let p = each-of (headroom (s .initial) ∷ threshold (s .threshold) ∷ leb (s .count) (s .threshold) ∷ headroom (s .headroom) ∷ Peaking.passes (s .preliminary) ∷ Peaking.passes (s .reliable) ∷ []) h in
+    record { preliminary = peaks-small (s .preliminary) (p 4); reliable = peaks-small (s .reliable) (p 5) }
+
+ring-kept : (r : Ring) → SmallRing r → ringOf (keptRing r) ≡ r
+unfolding ringOf keptRing
+ring-kept r h = rw (narrow-small (r .place) (h .place), narrow-small (r .size) (h .size))
+
+ring-back : (k : KeptRing) → SmallRing (ringOf k) → keptRing (ringOf k) ≡ k
+unfolding ringOf keptRing
+ring-back k h = rw (narrow-small (k .place) (h .place), narrow-small (k .size) (h .size))
+
+pub protector-kept : (s : Protector) → SmallProtector s → protectorOf (keptProtector s) ≡ s
+unfolding protectorOf keptProtector peaksOf keptPeaks
+protector-kept s h = rw (ring-kept (s .preliminary .ring) (h .preliminary), ring-kept (s .reliable .ring) (h .reliable))
+
+pub protector-back : (k : KeptProtector) → SmallProtector (protectorOf k) → keptProtector (protectorOf k) ≡ k
+unfolding protectorOf keptProtector peaksOf keptPeaks
+protector-back k h = rw (ring-back (k .preliminary .ring) (h .preliminary), ring-back (k .reliable .ring) (h .reliable))
+
 -- ---- the limiter
--- A limiter that is kept comes back,
-pub limiter-kept : (l : Limiter) → limiterOf (keptLimiter l) ≡ l
+pub record SmallEnvelope (e : Estimator) : Type 0 where
+  pub samples : Small (e .samples)
+  pub part : Small (e .part)
+
+-- The numbers of an envelope that passes are small: a frame has at most 480 samples a channel, and a part a twentieth of them.
+pub envelope-small : (e : Estimator) → Envelopes.passes e ≡ true → SmallEnvelope e
+unfolding Envelopes.passes isSamples
+envelope-small e h =
+    let p = each-of (curveLevel (e .level) ∷ isSamples (e .samples) ∷ eqb (e .part) (e .samples / 20) ∷ []) h in
+    let samples : e .samples ≤ 480 = leb-true (e .samples) 480 (each-of (leb 40 (e .samples) ∷ leb (e .samples) 480 ∷ eqb (e .samples % 20) 0 ∷ []) (p 1) 1) in
+    let part : e .part ≡ e .samples / 20 = eqb-true (e .part) (e .samples / 20) (p 2) in
+    record { samples = omega arith; part = omega arith }
+
+pub limiter-small : (l : Limiter) → Limiting.passes l ≡ true → SmallEnvelope (l .estimator)
+unfolding Limiting.passes
+limiter-small l h = envelope-small (l .estimator) (each-of (_ ∷ _ ∷ _ ∷ []) h 0)
+
+envelope-kept : (e : Estimator) → SmallEnvelope e → envelopeOf (keptEnvelope e) ≡ e
+unfolding envelopeOf keptEnvelope
+envelope-kept e h = rw (narrow-small (e .samples) (h .samples), narrow-small (e .part) (h .part))
+
+envelope-back : (k : KeptEnvelope) → SmallEnvelope (envelopeOf k) → keptEnvelope (envelopeOf k) ≡ k
+unfolding envelopeOf keptEnvelope
+envelope-back k h = rw (narrow-small (k .samples) (h .samples), narrow-small (k .part) (h .part))
+
+-- A limiter of small numbers that is kept comes back,
+pub limiter-small-kept : (l : Limiter) → SmallEnvelope (l .estimator) → limiterOf (keptLimiter l) ≡ l
 unfolding limiterOf keptLimiter
-limiter-kept l = rw (flag-back (l .curve .available))
+limiter-small-kept l h = rw (flag-back (l .curve .available), envelope-kept (l .estimator) h)
+
+-- as one that passes does,
+pub limiter-kept : (l : Limiter) → Limiting.passes l ≡ true → limiterOf (keptLimiter l) ≡ l
+limiter-kept l h = limiter-small-kept l (limiter-small l h)
 
 -- and is sound.
 pub kept-limiter-sound : (l : Limiter) → soundLimiter (keptLimiter l) ≡ true
 unfolding soundLimiter keptLimiter
 kept-limiter-sound l = number-sound (l .curve .available)
 
--- What is kept of the limiter inside is what came in, where that is sound.
-pub limiter-back : (k : KeptLimiter) → soundLimiter k ≡ true → keptLimiter (limiterOf k) ≡ k
+limiter-small-back : (k : KeptLimiter) → soundLimiter k ≡ true → SmallEnvelope (limiterOf k .estimator) → keptLimiter (limiterOf k) ≡ k
 unfolding soundLimiter limiterOf keptLimiter
-limiter-back k h = rw (number-back (k .curve .available) h)
+limiter-small-back k h s = rw (number-back (k .curve .available) h, envelope-back (k .estimator) s)
+
+-- What is kept of the limiter inside is what came in, where that is sound and the limiter inside passes.
+pub limiter-back : (k : KeptLimiter) → soundLimiter k ≡ true → Limiting.passes (limiterOf k) ≡ true → keptLimiter (limiterOf k) ≡ k
+limiter-back k h p = limiter-small-back k h (limiter-small (limiterOf k) p)
 
 -- ---- the chain
--- A chain that is kept comes back,
-pub chain-kept : (c : Chain) → chainOf (keptChain c) ≡ c
+pub record SmallChain (c : Chain) : Type 0 where
+  pub protector : SmallProtector (c .protector)
+  pub limiter : SmallEnvelope (c .limiter .estimator)
+
+pub chain-small : (c : Chain) → Chains.passes c ≡ true → SmallChain c
+unfolding Chains.passes
+chain-small c h =
+    let p =
+    each-of
+    (Level.passes (c .estimator) ∷ Headroom.passes (c .protector) ∷ Gain.passes (c .controller) ∷ Limiting.passes (c .limiter) ∷ eqb (c .estimator .threshold) (c .protector .threshold)
+    ∷ eqb (c .estimator .threshold) (c .controller .threshold) ∷ Chains.alike (c .estimator .settings) (c .controller .settings) ∷ eq (c .protector .initial) Chains.initial ∷ [])
+    h in
+    record { protector = protector-small (c .protector) (p 1); limiter = limiter-small (c .limiter) (p 3) }
+
+-- A chain of small numbers that is kept comes back,
+pub chain-small-kept : (c : Chain) → SmallChain c → chainOf (keptChain c) ≡ c
 unfolding chainOf keptChain
-chain-kept c = rw (flag-back (c .estimator .confident), flag-back (c .controller .applier .clip), limiter-kept (c .limiter))
+chain-small-kept c h =
+    rw (flag-back (c .estimator .confident), flag-back (c .controller .applier .clip), protector-kept (c .protector) (h .protector), limiter-small-kept (c .limiter) (h .limiter))
+
+-- as one that passes does,
+pub chain-kept : (c : Chain) → Chains.passes c ≡ true → chainOf (keptChain c) ≡ c
+chain-kept c h = chain-small-kept c (chain-small c h)
 
 -- and is sound.
 pub kept-chain-sound : (c : Chain) → soundChain (keptChain c) ≡ true
@@ -76,9 +204,17 @@ flags k h =
     let p = each-of (_ ∷ _ ∷ _ ∷ []) h in
     record { confident = p 0; clip = p 1; limiter = p 2 }
 
--- What is kept of the chain inside is what came in, where that is sound.
-pub chain-back : (k : KeptChain) → soundChain k ≡ true → keptChain (chainOf k) ≡ k
+chain-small-back : (k : KeptChain) → soundChain k ≡ true → SmallChain (chainOf k) → keptChain (chainOf k) ≡ k
 unfolding chainOf keptChain
-chain-back k h =
+chain-small-back k h s =
     let f = flags k h in
-    rw (number-back (k .estimator .confident) (f .confident), number-back (k .controller .applier .clip) (f .clip), limiter-back (k .limiter) (f .limiter))
+    rw (
+      number-back (k .estimator .confident) (f .confident),
+      number-back (k .controller .applier .clip) (f .clip),
+      protector-back (k .protector) (s .protector),
+      limiter-small-back (k .limiter) (f .limiter) (s .limiter),
+    )
+
+-- What is kept of the chain inside is what came in, where that is sound and the chain inside passes.
+pub chain-back : (k : KeptChain) → soundChain k ≡ true → Chains.passes (chainOf k) ≡ true → keptChain (chainOf k) ≡ k
+chain-back k h p = chain-small-back k h (chain-small (chainOf k) p)

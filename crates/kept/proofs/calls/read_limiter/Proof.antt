@@ -1,15 +1,13 @@
--- `kept::calls::read_limiter` meets its contract. Assumes nothing.
-use mathlib.Core.Bool.{Bool, true, _&&_, cond}
-use mathlib.Core.Path.{_≡_}
-use Prim.Native.Nat.{ℕ}
-use lib.Ieee.{Float, binary32, ofBits}
-use Rattle.units.specs.Replies.{refusal}
+-- `kept::calls::read_limiter` meets its contract: what the limiter tells, or it is refused. Assumes nothing.
+use mathlib.Core.Path.{_≡_, sym, _∙_}
+use mathlib.Core.Bool.{true}
+use Rattle.kept.specs.declared.calls.LevelRead.{LevelRead}
+use Rattle.kept.specs.States.{soundLimiter, limiterOf}
+use Rattle.kept.specs.Calls.{limiterRead}
+use Rattle.kept.specs.declared.states.KeptLimiter.{KeptLimiter}
 use Rattle.limiter.specs.Limiter as Limiting
 use Rattle.limiter.specs.declared.Limiter.{Limiter}
-use Rattle.kept.specs.States.{soundLimiter, limiterOf}
-use Rattle.kept.specs.Calls.{limiterPasses, limiterRead}
-use Rattle.kept.specs.declared.states.KeptLimiter.{KeptLimiter}
-use Rattle.kept.specs.declared.calls.LevelRead.{LevelRead}
+use Rattle.limiter.specs.declared.Heard.{Heard}
 use borrow.Author.Needs.{needs}
 use Rattle.kept.proofs.calls.read_limiter.Statement.{statement}
 use Rattle.kept.proofs.calls.read_limiter.Tie as tie
@@ -20,32 +18,21 @@ is-sound-requires c κs = search needs
 limiter-requires : tie.Need-limiter-requires
 limiter-requires c κs = search needs
 
-passes-requires : tie.Need-passes-requires
-passes-requires c κs = search needs
-
-refusal-requires : tie.Need-refusal-requires
-refusal-requires c κs = search needs
-
-pick-f32-requires : tie.Need-pick-f32-requires
-pick-f32-requires c κs = search needs
+last-audio-level-requires : tie.Need-last-audio-level-requires
+last-audio-level-requires c κs = search needs
 
 -- the answer, with what the calls gave
-handed : (k : KeptLimiter) {sound passes : Bool} {l : Limiter} {reply : ℕ} {level : Float} → sound ≡ soundLimiter k → l ≡ limiterOf k → passes ≡ Limiting.passes l
-    → reply ≡ refusal true (sound && passes) true true → level ≡ cond (sound && passes) (k .estimator .level) (ofBits binary32 0x0000_0000)
-    → _≡_ {A = LevelRead} (record { reply = reply; level = level }) (limiterRead k)
-unfolding limiterRead limiterPasses
-handed k s l p r v = rw (r, v, s, p, l)
+handed : (k : KeptLimiter) {l : Limiter} {told : Heard} → soundLimiter k ≡ true → l ≡ limiterOf k → told ≡ Limiting.heard l
+    → _≡_ {A = LevelRead} (record { reply = told .reply; level = told .level }) (limiterRead k)
+unfolding limiterRead
+handed k s e t = rw (t, e, s)
 
 returns : tie.Need-returns
-returns c = handed _ (c .before .before .before .before .before .is-sound .ensures) (c .before .before .before .before .limiter .ensures) (c .before .before .before .passes .ensures) (c .before .refusal .ensures) (c .pick-f32 .ensures)
+returns c = handed _ (sym (c .before .before .before .before .is-sound .ensures) ∙ c .before .before .before .if1 .taken) (c .before .before .limiter .ensures) (c .before .last-audio-level .ensures)
+
+returns-2 : tie.Need-returns-2
+unfolding limiterRead
+returns-2 c = let s = sym (c .before .is-sound .ensures) ∙ c .if1 .left in rw s
 
 pub read-limiter-spec : {M : Type 1} → statement M
-read-limiter-spec =
-    tie.close
-    (tie.spec
-    is-sound-requires
-    limiter-requires
-    passes-requires
-    refusal-requires
-    pick-f32-requires
-    returns)
+read-limiter-spec = tie.close (tie.spec is-sound-requires limiter-requires last-audio-level-requires returns returns-2)
