@@ -33,10 +33,7 @@ fn read_block(block: &mut [u8]) -> Filled {
     if got < 0 {
         os::fail(b"strip: standard input");
     }
-    Filled {
-        n,
-        well: 0 <= got,
-    }
+    Filled { n, well: 0 <= got }
 }
 
 // Writes the lines of a block, and answers whether that went well. Where not, it is told.
@@ -61,7 +58,7 @@ fn main() {
     let mut run = Run::new();
     let mut more = true;
     let mut turns = u64::MAX;
-    while (turns > 0) & more {
+    while turns > 0 && more {
         let filled = read_block(&mut block);
         let n = within(filled.n, &block);
         if filled.well {

@@ -1,5 +1,6 @@
 -- `strip::main` is safe and ends: it counts its turns down. Assumes nothing.
 use mathlib.Core.Path.{_≡_}
+use mathlib.Core.Logic.{⊎-elim}
 use lib.ListN.{length}
 use borrow.Author.Needs.{needs}
 use Rattle.strip.proofs.main.Statement.{statement}
@@ -57,10 +58,13 @@ loop-less : tie.Need-loop-less Inv-loop μ-loop
 loop-less c = search needs
 
 loop-again : tie.Need-loop-again Inv-loop μ-loop
-loop-again c = search needs
+loop-again c = (search needs, ⊎-elim (λ w. search needs) (λ w. search needs) (c .if2 .came))
 
 returns : tie.Need-returns Inv-loop μ-loop
 returns c = search needs
+
+returns-2 : tie.Need-returns-2 Inv-loop μ-loop
+returns-2 c = search needs
 
 pub main-spec : {M : Type 1} → statement M
 main-spec =
@@ -84,4 +88,5 @@ main-spec =
     sub-turns
     loop-less
     loop-again
-    returns)
+    returns
+    returns-2)
