@@ -3,4 +3,3 @@ pub mod Spelling
 pub mod Cutting
 pub mod Putting
 pub mod Ends
-pub mod Lengths

@@ -21,7 +21,7 @@ use Rattle.strip_format.specs.Laws.Steps.{put-refused, put-done}
 use Rattle.strip_format.specs.declared.Head.{Head}
 use Rattle.strip_lines.specs.Lines.{longest, recordLine, refusalLine}
 use Rattle.strip_lines.specs.Calls as Putting
-use Rattle.strip_lines.specs.Laws.Lengths.{record-line-most, refusal-line-most}
+use Rattle.strip_lines.specs.Laws.Ends.{record-line-fits, refusal-line-fits}
 use Rattle.strip_lines.specs.declared.Line as Put
 use Rattle.strip_run.specs.Lines.{Shown, after, unchanged, refusedAt, begunWith, begun, silence, lined, publishedWith, published, answered, framedWith, framed}
 use Rattle.strip_run.specs.Run.{lineOf, lineOut}
@@ -65,7 +65,7 @@ pub refuse-is : (d : Desk) (reply : ℕ) (out end : List ℕ) (line : Put.Line) 
     → Prints (refusedAt d reply) out (record { desk = record { chain = d .chain; number = d .number; more = false }; length = line .length }) end
 unfolding refusedAt Putting.putRefusalLine Putting.lineOf
 refuse-is d reply out end line room e f =
-    let fits = le-leb (length (refusalLine (d .number) reply)) (length out) (omega (arith, refusal-line-most (d .number) reply)) in
+    let fits = le-leb (length (refusalLine (d .number) reply)) (length out) (omega (arith, refusal-line-fits (d .number) reply)) in
     (rw (e, fits), f ∙ rw fits)
 
 -- ---- a head
@@ -127,7 +127,7 @@ module _ (d : Desk) (t : Told) (p : Published) where
       → (end ≡ out) × (refusedAt d (line .reply) ≡ lined d t p)
   unfolding lined Putting.putRecordLine
   lined-left out end line room e f n =
-      let q = line-left refused bytes out end line (omega (arith, record-line-most (d .number) (t .answer) (p .level .0) (p .headroom .0) (p .gain .0) (p .confident))) e f n in
+      let q = line-left refused bytes out end line (omega (arith, record-line-fits (d .number) (t .answer) (p .level .0) (p .headroom .0) (p .gain .0) (p .confident))) e f n in
       (q .1, ap (refusedAt d) (q .0) ∙ sym (rw (ne-eqb refused done (q .2)) refl))
 
 module _ (d : Desk) (f : Figures) (r : SamplesRead) (e : r ≡ samplesTold (d .chain)) where

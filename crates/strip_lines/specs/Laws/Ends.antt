@@ -15,7 +15,7 @@ use Rattle.rounding.specs.Units.{U, size}
 use Rattle.units.specs.Replies.{done}
 use Rattle.units.specs.Output.{Put, put}
 use Rattle.chain.specs.Answer.{Said}
-use Rattle.strip_lines.specs.Lines.{space, newline, minus, digit, spelled, decimal, hundredths, figure, kind, flag, recordLine, refusalLine}
+use Rattle.strip_lines.specs.Lines.{longest, space, newline, minus, digit, spelled, decimal, hundredths, figure, kind, flag, recordLine, refusalLine}
 use Rattle.strip_lines.specs.Calls.{recordRefusal, putRecordLine, putRefusalLine}
 
 -- ---- no zero is signed
@@ -99,7 +99,7 @@ pub record Ended (line : List ℕ) : Type 0 where
   pub text : Text 95 body
   pub ends : line ≡ body ++ (newline ∷ [])
 
-pub ended-fits : (line : List ℕ) → Ended line → length line ≤ 96
+pub ended-fits : (line : List ℕ) → Ended line → length line ≤ longest
 ended-fits line e = omega (arith, ap length (e .ends), length-append (e .body) (newline ∷ []), e .text .short)
 
 module _ (number : ℕ) (answer : Said) (level headroom gain : Float) (confident : Bool) where
@@ -143,11 +143,11 @@ module _ (number reply : ℕ) where
 
 -- ---- a buffer of 96 bytes is never too short
 pub record-line-fits : (number : ℕ) (answer : Said) (level headroom gain : Float) (confident : Bool)
-    → length (recordLine number answer level headroom gain confident) ≤ 96
+    → length (recordLine number answer level headroom gain confident) ≤ longest
 record-line-fits number answer level headroom gain confident =
     ended-fits (recordLine number answer level headroom gain confident) (record-line-ended number answer level headroom gain confident)
 
-pub refusal-line-fits : (number reply : ℕ) → length (refusalLine number reply) ≤ 96
+pub refusal-line-fits : (number reply : ℕ) → length (refusalLine number reply) ≤ longest
 refusal-line-fits number reply = ended-fits (refusalLine number reply) (refusal-line-ended number reply)
 
 -- so what is put into one is the line, and the rest of the buffer stays
@@ -156,7 +156,7 @@ unfolding put
 put-whole line out h = rw (is-true (leb (length line) (length out)) (le→leb (length line) (length out) h))
 
 pub record-line-put : (number : ℕ) (answer : Said) (level headroom gain : Float) (confident : Bool) (out : List ℕ)
-    → recordRefusal level headroom gain ≡ done → 96 ≤ length out
+    → recordRefusal level headroom gain ≡ done → longest ≤ length out
     → (let line = recordLine number answer level headroom gain confident in putRecordLine number answer level headroom gain confident out ≡ record { reply = done; out = line ++ drop (length line) out })
 unfolding putRecordLine
 record-line-put number answer level headroom gain confident out e h =
@@ -164,7 +164,7 @@ record-line-put number answer level headroom gain confident out e h =
     (put-whole (recordLine number answer level headroom gain confident) out
     (le-trans (record-line-fits number answer level headroom gain confident) h))
 
-pub refusal-line-put : (number reply : ℕ) (out : List ℕ) → 96 ≤ length out
+pub refusal-line-put : (number reply : ℕ) (out : List ℕ) → longest ≤ length out
     → (let line = refusalLine number reply in putRefusalLine number reply out ≡ record { reply = done; out = line ++ drop (length line) out })
 unfolding putRefusalLine
 refusal-line-put number reply out h = put-whole (refusalLine number reply) out (le-trans (refusal-line-fits number reply) h)

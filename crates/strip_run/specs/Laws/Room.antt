@@ -16,7 +16,7 @@ use Rattle.chain.specs.declared.SamplesRead.{SamplesRead}
 use Rattle.strip_format.specs.Format.{figures, gap}
 use Rattle.strip_lines.specs.Lines.{longest, recordLine}
 use Rattle.strip_lines.specs.Calls.{recordRefusal}
-use Rattle.strip_lines.specs.Laws.Lengths.{record-line-most, refusal-line-most}
+use Rattle.strip_lines.specs.Laws.Ends.{record-line-fits, refusal-line-fits}
 use Rattle.strip_reader.specs.Reader.{Handed, more, head, entry, end, refused}
 use Rattle.strip_run.specs.Lines.{Shown, after, unchanged, refusedAt, begunWith, begun, silence, lined, publishedWith, published, answered, framedWith, framed, shown, told}
 use Rattle.strip_run.specs.declared.Desk.{Desk}
@@ -34,7 +34,7 @@ none d = omega arith
 
 refused-most : (d : Desk) (reply : ℕ) → Roomy (refusedAt d reply)
 unfolding refusedAt
-refused-most d reply = refusal-line-most (d .number) reply
+refused-most d reply = refusal-line-fits (d .number) reply
 
 begun-most : (d : Desk) (m : Made) → Roomy (begunWith d m)
 unfolding begunWith
@@ -48,7 +48,7 @@ lined-most d t p =
     let bad = recordRefusal (p .level .0) (p .headroom .0) (p .gain .0) in
     let line = recordLine (d .number) (t .answer) (p .level .0) (p .headroom .0) (p .gain .0) (p .confident) in
     either (eqb bad done) (record { desk = record { chain = t .chain; number = after (d .number); more = true }; line = line }) (refusedAt d bad)
-    (record-line-most (d .number) (t .answer) (p .level .0) (p .headroom .0) (p .gain .0) (p .confident)) (refused-most d bad)
+    (record-line-fits (d .number) (t .answer) (p .level .0) (p .headroom .0) (p .gain .0) (p .confident)) (refused-most d bad)
 
 published-most : (d : Desk) (t : Told) (r : Reading) → Roomy (publishedWith d t r)
 unfolding publishedWith
