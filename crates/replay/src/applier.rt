@@ -15,9 +15,6 @@ use crate::figures::ASKED;
 use crate::figures::Desk;
 use crate::figures::Given;
 use crate::figures::Reply;
-use crate::lines;
-use crate::lines::Asked;
-use crate::lines::Wanted;
 use crate::numbers;
 use gain_applier::Applier;
 use gain_applier::Next;
@@ -35,7 +32,10 @@ pub const FROM: usize = estimator::END;
 
 pub const END: usize = FROM + SHOWN;
 
-// The names, each by its letter in the table below.
+// The names, as `lines::seek` takes them: a letter, how many figures the name takes, and the name.
+pub const NAMES: [u8; 65] = *b"n2=applier.new s*=applier.set f1=applier.factor a2+applier.apply ";
+
+// The letters.
 const NEW: u8 = b'n';
 
 const SET: u8 = b's';
@@ -43,18 +43,6 @@ const SET: u8 = b's';
 const FACTOR: u8 = b'f';
 
 const APPLY: u8 = b'a';
-
-// What a line asks of this part, and what was found before where it asks nothing of it.
-pub(crate) fn wanted(line: &[u8], asked: Asked, found: Wanted) -> Wanted {
-    lines::seek(
-        line,
-        asked,
-        found,
-        PART,
-        STATE,
-        b"n2=applier.new s*=applier.set f1=applier.factor a2+applier.apply ",
-    )
-}
 
 // The applier whose figures stand at a place.
 pub(crate) fn read(all: &Desk, from: usize) -> Applier {

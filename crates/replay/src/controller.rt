@@ -16,9 +16,6 @@ use crate::figures::ASKED;
 use crate::figures::Desk;
 use crate::figures::Given;
 use crate::figures::Reply;
-use crate::lines;
-use crate::lines::Asked;
-use crate::lines::Wanted;
 use crate::numbers;
 use crate::protector;
 use crate::speech;
@@ -50,22 +47,13 @@ const REST: usize = SETTINGS + speech::SETTINGS;
 // Where the question has what is known of the frame.
 const KNOWN: usize = 2;
 
-// The names, each by its letter in the table below.
+// The names, as `lines::seek` takes them: a letter, how many figures the name takes, and the name.
+pub const NAMES: [u8; 58] = *b"n6=controller.new s*=controller.set p8+controller.process ";
+
+// The letters.
 const NEW: u8 = b'n';
 
 const PROCESS: u8 = b'p';
-
-// What a line asks of this part, and what was found before where it asks nothing of it.
-pub(crate) fn wanted(line: &[u8], asked: Asked, found: Wanted) -> Wanted {
-    lines::seek(
-        line,
-        asked,
-        found,
-        PART,
-        STATE,
-        b"n6=controller.new s*=controller.set p8+controller.process ",
-    )
-}
 
 // What is known of a frame, whose figures stand at a place.
 fn info(all: &Desk, from: usize) -> Info {

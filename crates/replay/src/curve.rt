@@ -15,9 +15,6 @@ use crate::figures::Desk;
 use crate::figures::Given;
 use crate::figures::Reply;
 use crate::figures::TOLD;
-use crate::lines;
-use crate::lines::Asked;
-use crate::lines::Wanted;
 use crate::numbers;
 use crate::ring;
 use interpolated_gain_curve::Curve;
@@ -37,7 +34,10 @@ pub const FROM: usize = ring::END;
 
 pub const END: usize = FROM + SHOWN;
 
-// The names, each by its letter in the table below.
+// The names, as `lines::seek` takes them: a letter, how many figures the name takes, and the name.
+pub const NAMES: [u8; 56] = *b"n0=curve.new s*=curve.set l1=curve.level t0=curve.stats ";
+
+// The letters.
 const NEW: u8 = b'n';
 
 const SET: u8 = b's';
@@ -45,18 +45,6 @@ const SET: u8 = b's';
 const LEVEL: u8 = b'l';
 
 const STATS: u8 = b't';
-
-// What a line asks of this part, and what was found before where it asks nothing of it.
-pub(crate) fn wanted(line: &[u8], asked: Asked, found: Wanted) -> Wanted {
-    lines::seek(
-        line,
-        asked,
-        found,
-        PART,
-        STATE,
-        b"n0=curve.new s*=curve.set l1=curve.level t0=curve.stats ",
-    )
-}
 
 // The curve whose figures stand at a place.
 pub(crate) fn read(all: &Desk, from: usize) -> Curve {

@@ -39,25 +39,52 @@ use crate::ratio;
 use crate::ring;
 use crate::speech;
 use crate::whole;
-use std::num::wrapping_add_usize;
 
-// What a line asks of a part that no frame is handed to, each asked in turn; and what was found before where it asks
-// nothing of them.
+// What a line asks of a part that no frame is handed to: each part is asked in turn. Where it asks nothing of them,
+// what was found before.
 fn wanted_quiet(line: &[u8], asked: Asked, found: Wanted) -> Wanted {
-    let a = ratio::wanted(line, asked, found);
-    let b = ring::wanted(line, asked, a);
-    let c = curve::wanted(line, asked, b);
-    let d = speech::wanted(line, asked, c);
-    protector::wanted(line, asked, d)
+    let a = lines::seek(line, asked, found, ratio::PART, ratio::STATE, &ratio::NAMES);
+    let b = lines::seek(line, asked, a, ring::PART, ring::STATE, &ring::NAMES);
+    let c = lines::seek(line, asked, b, curve::PART, curve::STATE, &curve::NAMES);
+    let d = lines::seek(line, asked, c, speech::PART, speech::STATE, &speech::NAMES);
+    lines::seek(
+        line,
+        asked,
+        d,
+        protector::PART,
+        protector::STATE,
+        &protector::NAMES,
+    )
 }
 
 // The same of another part.
 fn wanted_loud(line: &[u8], asked: Asked, found: Wanted) -> Wanted {
-    let a = estimator::wanted(line, asked, found);
-    let b = applier::wanted(line, asked, a);
-    let c = limits::wanted(line, asked, b);
-    let d = controller::wanted(line, asked, c);
-    whole::wanted(line, asked, d)
+    let a = lines::seek(
+        line,
+        asked,
+        found,
+        estimator::PART,
+        estimator::STATE,
+        &estimator::NAMES,
+    );
+    let b = lines::seek(
+        line,
+        asked,
+        a,
+        applier::PART,
+        applier::STATE,
+        &applier::NAMES,
+    );
+    let c = lines::seek(line, asked, b, limits::PART, limits::STATE, &limits::NAMES);
+    let d = lines::seek(
+        line,
+        asked,
+        c,
+        controller::PART,
+        controller::STATE,
+        &controller::NAMES,
+    );
+    lines::seek(line, asked, d, whole::PART, whole::STATE, &whole::NAMES)
 }
 
 // Asks a part that no frame is handed to.
@@ -102,9 +129,9 @@ fn put(out: &mut Out, at: usize, reply: Reply, desk: &Desk, frame: &[f32]) -> us
 }
 
 // Lays a question on the desk, and its samples into a frame, and answers its first figures.
-fn lay(line: &[u8], name: usize, skip: usize, desk: &mut Desk, frame: &mut [f32]) -> Given {
+fn lay(line: &[u8], name: usize, desk: &mut Desk, frame: &mut [f32]) -> Given {
     figures::ask(desk, line, name, MOST_ASKED);
-    lines::fill(line, wrapping_add_usize(name, skip), frame);
+    lines::fill(line, frame);
     figures::asked(desk)
 }
 
@@ -118,7 +145,7 @@ fn answer_in(
     out: &mut Out,
     at: usize,
 ) -> usize {
-    let given = lay(line, name, wanted.skip, desk, frame);
+    let given = lay(line, name, desk, frame);
     let reply = ask(wanted.part, wanted.word, given, desk, frame);
     put(out, at, reply, desk, frame)
 }
@@ -130,7 +157,6 @@ pub(crate) fn answer(line: &[u8], desk: &mut Desk, out: &mut Out, at: usize) -> 
         part: 0,
         word: 0,
         samples: 0,
-        skip: 0,
     };
     let quiet = wanted_quiet(line, asked, none);
     let wanted = wanted_loud(line, asked, quiet);

@@ -16,9 +16,6 @@ use crate::figures::Desk;
 use crate::figures::Given;
 use crate::figures::Reply;
 use crate::figures::TOLD;
-use crate::lines;
-use crate::lines::Asked;
-use crate::lines::Wanted;
 use crate::numbers;
 use fixed_digital_level_estimator::Estimator;
 use fixed_digital_level_estimator::Levels;
@@ -41,7 +38,11 @@ pub const END: usize = FROM + SHOWN;
 // How many sub-frames a frame has.
 const SUB_FRAMES: usize = 20;
 
-// The names, each by its letter in the table below.
+// The names, as `lines::seek` takes them: a letter, how many figures the name takes, and the name.
+pub const NAMES: [u8; 93] =
+    *b"n1=estimator.new s*=estimator.set c1=estimator.samples r0=estimator.reset l2+estimator.level ";
+
+// The letters.
 const NEW: u8 = b'n';
 
 const SET: u8 = b's';
@@ -51,18 +52,6 @@ const SAMPLES: u8 = b'c';
 const RESET: u8 = b'r';
 
 const LEVEL: u8 = b'l';
-
-// What a line asks of this part, and what was found before where it asks nothing of it.
-pub(crate) fn wanted(line: &[u8], asked: Asked, found: Wanted) -> Wanted {
-    lines::seek(
-        line,
-        asked,
-        found,
-        PART,
-        STATE,
-        b"n1=estimator.new s*=estimator.set c1=estimator.samples r0=estimator.reset l2+estimator.level ",
-    )
-}
 
 // The estimator whose figures stand at a place.
 pub(crate) fn read(all: &Desk, from: usize) -> Estimator {

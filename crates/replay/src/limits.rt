@@ -17,9 +17,6 @@ use crate::figures::ASKED;
 use crate::figures::Desk;
 use crate::figures::Given;
 use crate::figures::Reply;
-use crate::lines;
-use crate::lines::Asked;
-use crate::lines::Wanted;
 use crate::numbers;
 use limiter::Limiter;
 use limiter::Next;
@@ -46,7 +43,11 @@ const CURVE: usize = ESTIMATOR + estimator::STATE;
 
 const REST: usize = 3;
 
-// The names, each by its letter in the table below.
+// The names, as `lines::seek` takes them: a letter, how many figures the name takes, and the name.
+pub const NAMES: [u8; 85] =
+    *b"n1=limiter.new s*=limiter.set c1=limiter.samples r0=limiter.reset p2+limiter.process ";
+
+// The letters.
 const NEW: u8 = b'n';
 
 const SET: u8 = b's';
@@ -56,18 +57,6 @@ const SAMPLES: u8 = b'c';
 const RESET: u8 = b'r';
 
 const PROCESS: u8 = b'p';
-
-// What a line asks of this part, and what was found before where it asks nothing of it.
-pub(crate) fn wanted(line: &[u8], asked: Asked, found: Wanted) -> Wanted {
-    lines::seek(
-        line,
-        asked,
-        found,
-        PART,
-        STATE,
-        b"n1=limiter.new s*=limiter.set c1=limiter.samples r0=limiter.reset p2+limiter.process ",
-    )
-}
 
 // The limiter whose figures stand at a place.
 pub(crate) fn read(all: &Desk, from: usize) -> Limiter {

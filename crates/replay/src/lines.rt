@@ -57,12 +57,11 @@ pub(crate) fn split(line: &[u8]) -> Asked {
 pub const MOST: usize = 3840;
 
 // What a line asks: the number of the part, which is 0 where it asks none; the letter of its name in the part's
-// table; how many samples it has; and how many bytes stand between its name and the first of them.
+// table; and how many samples it has, which are its last figures.
 pub struct Wanted {
     pub part: u32,
     pub word: u8,
     pub samples: usize,
-    pub skip: usize,
 }
 
 // How many of so many figures follow the first few.
@@ -79,11 +78,6 @@ fn figures_of(byte: u8, state: usize) -> usize {
     }
 }
 
-// How many bytes so many figures take, each with its space, and one space more.
-fn bytes_of(count: usize) -> usize {
-    if count < 1000 { 9 * count + 1 } else { 0 }
-}
-
 // What a line asks of a part that has the name whose entry stands at a place of the part's table: nothing where it
 // does not have the entry's figures. Where a plus follows their number, samples follow the figures.
 fn entry(asked: Asked, part: u32, state: usize, table: &[u8], at: usize) -> Wanted {
@@ -96,7 +90,6 @@ fn entry(asked: Asked, part: u32, state: usize, table: &[u8], at: usize) -> Want
         part: if ok { part } else { 0 },
         word: byte_at(table, at),
         samples,
-        skip: bytes_of(due),
     }
 }
 
@@ -149,15 +142,15 @@ pub(crate) fn within(samples: usize, frame: &[f32]) -> usize
     }
 }
 
-// Fills a frame with the figures of a line from a place on.
-pub(crate) fn fill(line: &[u8], from: usize, frame: &mut [f32]) {
-    let mut at = from;
-    let mut i = 0;
-    while i < frame.len() {
+// Fills a frame with the last figures of a line, the last of them first.
+pub(crate) fn fill(line: &[u8], frame: &mut [f32]) {
+    let mut at = after(line.len(), 8);
+    let mut i = frame.len();
+    while 0 < i {
+        i -= 1;
         let figure = words::read(line, at);
         frame[i] = bits::float_of(figure.bits);
-        at = wrapping_add_usize(at, 9);
-        i += 1;
+        at = after(at, 9);
     }
 }
 

@@ -15,9 +15,6 @@ use crate::figures::ASKED;
 use crate::figures::Desk;
 use crate::figures::Given;
 use crate::figures::Reply;
-use crate::lines;
-use crate::lines::Asked;
-use crate::lines::Wanted;
 use crate::numbers;
 use crate::ring;
 use crate::speech;
@@ -55,7 +52,11 @@ const RELIABLE: usize = PRELIMINARY + PEAKS;
 
 const REST: usize = 3;
 
-// The names, each by its letter in the table below.
+// The names, as `lines::seek` takes them: a letter, how many figures the name takes, and the name.
+pub const NAMES: [u8; 74] =
+    *b"n2=protector.new s*=protector.set a3=protector.analyze r0=protector.reset ";
+
+// The letters.
 const NEW: u8 = b'n';
 
 const SET: u8 = b's';
@@ -63,18 +64,6 @@ const SET: u8 = b's';
 const ANALYZE: u8 = b'a';
 
 const RESET: u8 = b'r';
-
-// What a line asks of this part, and what was found before where it asks nothing of it.
-pub(crate) fn wanted(line: &[u8], asked: Asked, found: Wanted) -> Wanted {
-    lines::seek(
-        line,
-        asked,
-        found,
-        PART,
-        STATE,
-        b"n2=protector.new s*=protector.set a3=protector.analyze r0=protector.reset ",
-    )
-}
 
 // The state whose figures stand at a place.
 fn peaks(all: &Desk, from: usize) -> Peaks {

@@ -8,20 +8,17 @@ use crate::figures::Given;
 use crate::figures::PARTS;
 use crate::figures::Reply;
 use crate::figures::TOLD;
-use crate::lines;
-use crate::lines::Asked;
-use crate::lines::Wanted;
 use units::kinds::Db;
 
-// The part's number, and where its figures would stand and end on the desk.
+// The part's number, how many figures its state has, and where these would end on the desk.
 pub const PART: u32 = 1;
+
+pub const STATE: usize = 0;
 
 pub const END: usize = PARTS;
 
-// What a line asks of this part, and what was found before where it asks nothing of it.
-pub(crate) fn wanted(line: &[u8], asked: Asked, found: Wanted) -> Wanted {
-    lines::seek(line, asked, found, PART, 0, b"x1=ratio ")
-}
+// The names, as `lines::seek` takes them: a letter, how many figures the name takes, and the name.
+pub const NAMES: [u8; 9] = *b"x1=ratio ";
 
 // Answers the question that lies on the desk.
 pub(crate) fn answer(given: Given, desk: &mut Desk) -> Reply {

@@ -16,9 +16,6 @@ use crate::figures::ASKED;
 use crate::figures::Desk;
 use crate::figures::Given;
 use crate::figures::Reply;
-use crate::lines;
-use crate::lines::Asked;
-use crate::lines::Wanted;
 use crate::numbers;
 use crate::ratio;
 use saturation_protector_buffer::Front;
@@ -49,7 +46,10 @@ const STORED: usize = 2;
 
 const REST: usize = 9;
 
-// The names, each by its letter in the table below.
+// The names, as `lines::seek` takes them: a letter, how many figures the name takes, and the name.
+pub const NAMES: [u8; 64] = *b"n0=ring.new s*=ring.set p1=ring.push r0=ring.reset k0=ring.keep ";
+
+// The letters.
 const NEW: u8 = b'n';
 
 const SET: u8 = b's';
@@ -59,18 +59,6 @@ const PUSH: u8 = b'p';
 const RESET: u8 = b'r';
 
 const KEEP: u8 = b'k';
-
-// What a line asks of this part, and what was found before where it asks nothing of it.
-pub(crate) fn wanted(line: &[u8], asked: Asked, found: Wanted) -> Wanted {
-    lines::seek(
-        line,
-        asked,
-        found,
-        PART,
-        STATE,
-        b"n0=ring.new s*=ring.set p1=ring.push r0=ring.reset k0=ring.keep ",
-    )
-}
 
 // The ring whose figures stand at a place.
 pub(crate) fn read(all: &Desk, from: usize) -> Ring {

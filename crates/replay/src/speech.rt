@@ -16,9 +16,6 @@ use crate::figures::Desk;
 use crate::figures::Given;
 use crate::figures::Reply;
 use crate::limits;
-use crate::lines;
-use crate::lines::Asked;
-use crate::lines::Wanted;
 use crate::numbers;
 use speech_level_estimator::Average;
 use speech_level_estimator::Estimator;
@@ -44,7 +41,10 @@ pub const END: usize = FROM + SHOWN;
 // How many of these are settings.
 pub const SETTINGS: usize = 5;
 
-// The names, each by its letter in the table below.
+// The names, as `lines::seek` takes them: a letter, how many figures the name takes, and the name.
+pub const NAMES: [u8; 61] = *b"n6=speech.new s*=speech.set u2=speech.update r0=speech.reset ";
+
+// The letters.
 const NEW: u8 = b'n';
 
 const SET: u8 = b's';
@@ -52,18 +52,6 @@ const SET: u8 = b's';
 const UPDATE: u8 = b'u';
 
 const RESET: u8 = b'r';
-
-// What a line asks of this part, and what was found before where it asks nothing of it.
-pub(crate) fn wanted(line: &[u8], asked: Asked, found: Wanted) -> Wanted {
-    lines::seek(
-        line,
-        asked,
-        found,
-        PART,
-        STATE,
-        b"n6=speech.new s*=speech.set u2=speech.update r0=speech.reset ",
-    )
-}
 
 // The settings whose figures stand at a place.
 pub(crate) fn settings(all: &Desk, from: usize) -> Settings {

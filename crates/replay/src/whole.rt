@@ -24,9 +24,6 @@ use crate::figures::Given;
 use crate::figures::Reply;
 use crate::figures::TOLD;
 use crate::limits;
-use crate::lines;
-use crate::lines::Asked;
-use crate::lines::Wanted;
 use crate::numbers;
 use crate::protector;
 use crate::speech;
@@ -42,7 +39,7 @@ use units::replies::DONE;
 // there.
 pub const PART: u32 = controller::PART + 1;
 
-const STATE: usize = CONTROLLER + controller::STATE;
+pub const STATE: usize = CONTROLLER + controller::STATE;
 
 pub const END: usize = controller::END;
 
@@ -64,7 +61,10 @@ const LOOKS: usize = RESULTS + 3;
 // Where the question has the frame's figures.
 const KNOWN: usize = 2;
 
-// The names, each by its letter in the table below.
+// The names, as `lines::seek` takes them: a letter, how many figures the name takes, and the name.
+pub const NAMES: [u8; 55] = *b"n7=chain.new s*=chain.set f7+chain.step l0=chain.state ";
+
+// The letters.
 const NEW: u8 = b'n';
 
 const SET: u8 = b's';
@@ -72,18 +72,6 @@ const SET: u8 = b's';
 const STEP: u8 = b'f';
 
 const LOOK: u8 = b'l';
-
-// What a line asks of this part, and what was found before where it asks nothing of it.
-pub(crate) fn wanted(line: &[u8], asked: Asked, found: Wanted) -> Wanted {
-    lines::seek(
-        line,
-        asked,
-        found,
-        PART,
-        STATE,
-        b"n7=chain.new s*=chain.set f7+chain.step l0=chain.state ",
-    )
-}
 
 // A frame's figures, which stand at a place.
 fn metered(all: &Desk, from: usize) -> Figures {
@@ -178,22 +166,29 @@ fn started(a: Made) -> Next {
     }
 }
 
-// The reply to the question that lies on the desk, its answer, and the chain after it.
-fn next(word: u8, given: Given, desk: &Desk, frame: &mut [f32]) -> Next {
+// The reply to a question without a frame, and the chain after it.
+fn still(word: u8, desk: &Desk) -> Next {
     if word == NEW {
         let threshold = figures::word(desk, ASKED, speech::SETTINGS);
         let samples = figures::count(desk, ASKED, speech::SETTINGS + 1);
         started(Chain::new(speech::settings(desk, ASKED), threshold, samples))
-    } else if word == STEP {
-        let known = metered(desk, KNOWN);
-        let channels = figures::wide(given.first);
-        read(desk, false).step(known, frame, channels, figures::wide(given.second))
     } else {
         Next {
             reply: DONE,
             answer: Answer::NonSpeech,
             chain: read(desk, word == SET),
         }
+    }
+}
+
+// The reply to the question that lies on the desk, its answer, and the chain after it.
+fn next(word: u8, given: Given, desk: &Desk, frame: &mut [f32]) -> Next {
+    if word == STEP {
+        let known = metered(desk, KNOWN);
+        let channels = figures::wide(given.first);
+        read(desk, false).step(known, frame, channels, figures::wide(given.second))
+    } else {
+        still(word, desk)
     }
 }
 

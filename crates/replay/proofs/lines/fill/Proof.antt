@@ -1,6 +1,6 @@
 -- `replay::lines::fill` is safe and ends: the frame stays as long as it is. Assumes nothing.
 use mathlib.Core.Path.{_≡_}
-use Prim.Native.Nat.{_-_, _≤_}
+use Prim.Native.Nat.{_≤_}
 use lib.ListN.{length, length-set}
 use native.Mathlib.Omega.{arith}
 use borrow.Author.Needs.{needs}
@@ -8,13 +8,19 @@ use Rattle.replay.proofs.lines.fill.Statement.{statement}
 use Rattle.replay.proofs.lines.fill.Tie as tie
 
 abbrev Inv-loop : tie.InvT-loop
-Inv-loop line from frame₀ at₀ i₀ frame at i = (i ≤ length frame) × (length frame ≡ length frame₀)
+Inv-loop line frame₀ at₀ i₀ frame at i = (i ≤ length frame) × (length frame ≡ length frame₀)
 
 abbrev μ-loop : tie.MeasureT-loop
-μ-loop line from frame₀ at₀ i₀ frame at i = length frame - i
+μ-loop line frame₀ at₀ i₀ frame at i = i
+
+after-requires : tie.Need-after-requires Inv-loop μ-loop
+after-requires c κs = search needs
 
 loop-holds : tie.Need-loop-holds Inv-loop μ-loop
 loop-holds c = search needs
+
+sub-i : tie.Need-sub-i Inv-loop μ-loop
+sub-i c = search needs
 
 read-requires : tie.Need-read-requires Inv-loop μ-loop
 read-requires c κs = search needs
@@ -28,14 +34,11 @@ mul-frame c = search needs
 slice-write-frame : tie.Need-slice-write-frame Inv-loop μ-loop
 slice-write-frame c = search needs
 
-wrapping-add-usize-requires : tie.Need-wrapping-add-usize-requires Inv-loop μ-loop
-wrapping-add-usize-requires c κs = search needs
-
-add-i : tie.Need-add-i Inv-loop μ-loop
-add-i c = search needs
+after-requires-2 : tie.Need-after-requires-2 Inv-loop μ-loop
+after-requires-2 c κs = search needs
 
 loop-less : tie.Need-loop-less Inv-loop μ-loop
-loop-less c = simp length-set (omega arith)
+loop-less c = search needs
 
 loop-again : tie.Need-loop-again Inv-loop μ-loop
 loop-again c = (simp length-set (omega arith), simp length-set (omega arith))
@@ -52,13 +55,14 @@ fill-spec =
     (tie.spec
     Inv-loop
     μ-loop
+    after-requires
     loop-holds
+    sub-i
     read-requires
     float-of-requires
     mul-frame
     slice-write-frame
-    wrapping-add-usize-requires
-    add-i
+    after-requires-2
     loop-less
     loop-again
     same-length
