@@ -106,6 +106,15 @@ pub(crate) fn put(all: &mut Desk, from: usize, some: &[u32]) {
     }
 }
 
+// Stores some floats, from a place on.
+pub(crate) fn put_floats(all: &mut Desk, from: usize, some: &[f32]) {
+    let mut i = 0;
+    while i < some.len() {
+        store(all, wrapping_add_usize(from, i), bits::bits_of(some[i]));
+        i += 1;
+    }
+}
+
 // Stores the twenty levels of a frame, from a place on.
 pub(crate) fn put_levels(all: &mut Desk, from: usize, levels: [LinearS16; 20]) {
     let mut i = 0;

@@ -198,7 +198,7 @@ unfolding Chains.passes Chaining.nothing Level.passes Level.nothing
 nothing-fails = rw unset-refused
 
 nothing-small : SmallChain Chaining.nothing
-unfolding Chaining.nothing Headroom.nothing Peaking.none Rings.empty Limiting.none Envelope.none
+unfolding Chaining.nothing Headroom.nothing Peaking.none Rings.emptyOf Limiting.none Envelope.none
 nothing-small =
     record {
       protector = record { preliminary = record { place = lit< tt; size = lit< tt }; reliable = record { place = lit< tt; size = lit< tt } };

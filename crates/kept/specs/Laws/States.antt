@@ -74,19 +74,19 @@ pub record SmallRing (r : Ring) : Type 0 where
   pub place : Small (r .place)
   pub size : Small (r .size)
 
--- The numbers of a ring that passes are small: it has four places.
+-- The numbers of a ring that passes are small: it has so few places.
 ring-small : (r : Ring) → Rings.passes r ≡ true → SmallRing r
-unfolding Rings.passes fitsRing
+unfolding Rings.passesOf fitsRing
 ring-small r h =
     let p = each-of (_ ∷ _ ∷ _ ∷ []) h in
-    let place : r .place < 4 = ltb-true (r .place) 4 (p 0) in
-    let size : r .size ≤ 4 = leb-true (r .size) 4 (p 1) in
+    let place : r .place < Rings.capacity = ltb-true (r .place) Rings.capacity (p 0) in
+    let size : r .size ≤ Rings.capacity = leb-true (r .size) Rings.capacity (p 1) in
     record { place = omega arith; size = omega arith }
 
 peaks-small : (s : Peaks) → Peaking.passes s ≡ true → SmallRing (s .ring)
 unfolding Peaking.passes
 peaks-small s h =
-    ring-small (s .ring) (each-of (headroom (s .headroom) ∷ Rings.passes (s .ring) ∷ Peaking.allLevels (s .ring .stored) ∷ level (s .largest) ∷ Peaking.time (s .elapsed) ∷ []) h 1)
+    ring-small (s .ring) (each-of (headroom (s .headroom) ∷ Rings.passes (s .ring) ∷ Peaking.allLevels (Rings.slots (s .ring)) ∷ level (s .largest) ∷ Peaking.time (s .elapsed) ∷ []) h 1)
 
 pub record SmallProtector (s : Protector) : Type 0 where
   pub preliminary : SmallRing (s .preliminary .ring)
