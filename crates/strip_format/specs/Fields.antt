@@ -14,7 +14,7 @@ numberAt bytes at zero = 0
 numberAt bytes at (suc w) = numberAt bytes at w * 256 + getD bytes (at + w) 0
 
 -- A description says of each field how many bytes it has: how many they are together,
-unfoldable pub size : List ℕ → ℕ
+abbrev pub size : List ℕ → ℕ
 size [] = 0
 size (w ∷ ws) = w + size ws
 

@@ -1,5 +1,6 @@
--- The strip's head and record: one description of each, from which reading and writing follow. Definitions only.
-use mathlib.Core.List.{List, [], _∷_}
+-- The strip's head, its records and the whole of it: one description of each, from which reading and writing follow. Definitions only.
+use mathlib.Core.Bool.{Bool, false}
+use mathlib.Core.List.{List, [], _∷_, _++_}
 use Prim.Native.Nat.{ℕ, _-_}
 use lib.ListN.{getD}
 use Rattle.bits.specs.Floats.{floatOf, patternOf}
@@ -8,27 +9,32 @@ use Rattle.units.specs.declared.figures.Figures.{Figures}
 use Rattle.strip_format.specs.Fields.{size, written}
 use Rattle.strip_format.specs.declared.Head.{Head}
 
--- a version of the strip: its number, and the bytes of its threshold
+-- a version of the strip: its number, the bytes of its threshold, the largest threshold that it can say, and whether a record may be a gap
 pub record Version : Type 0 where
   pub number : ℕ
   pub threshold : ℕ
+  pub largest : ℕ
+  pub gaps : Bool
 
--- "version 1, T (1 byte)"
+-- "version 1, T (1 byte)"; "T 1 to 200"; a record of length 0 is refused
 abbrev pub one : Version
-one = record { number = 1; threshold = 1 }
+one = record { number = 1; threshold = 1; largest = 200; gaps = false }
+
+-- five floats of 4 bytes each: the settings of a head, and the figures of a record
+abbrev pub floatFields : List ℕ
+floatFields = 4 ∷ 4 ∷ 4 ∷ 4 ∷ 4 ∷ []
 
 -- ---- "Head: 2-byte length 24, version 1, T (1 byte), samples (2), headroom, largest gain, initial gain, change per second, output noise"
 abbrev pub headFields : Version → List ℕ
-headFields v = 2 ∷ 1 ∷ v .threshold ∷ 2 ∷ 4 ∷ 4 ∷ 4 ∷ 4 ∷ 4 ∷ []
+headFields v = 2 ∷ 1 ∷ v .threshold ∷ 2 ∷ floatFields
 
 -- the bytes after the length's own two: 24 in version 1
-unfoldable pub headLength : Version → ℕ
-unfolding size
+abbrev pub headLength : Version → ℕ
 headLength v = size (headFields v) - 2
 
 -- "floats as their bits"
 unfoldable pub headNumbers : Version → Head → List ℕ
-unfolding headLength patternOf
+unfolding patternOf
 headNumbers v h =
     headLength v
     ∷ v .number
@@ -65,14 +71,13 @@ headOf ns =
 
 -- ---- "Records: 2-byte length 20, then probability, rms, peak, noise, envelope"
 abbrev pub recordFields : List ℕ
-recordFields = 2 ∷ 4 ∷ 4 ∷ 4 ∷ 4 ∷ 4 ∷ []
+recordFields = 2 ∷ floatFields
 
-unfoldable pub recordLength : ℕ
-unfolding size
+abbrev pub recordLength : ℕ
 recordLength = size recordFields - 2
 
 unfoldable pub recordNumbers : Figures → List ℕ
-unfolding recordLength patternOf
+unfolding patternOf
 recordNumbers f =
     recordLength
     ∷ patternOf (f .probability)
@@ -94,6 +99,22 @@ figuresOf ns =
       envelope = record { 0 = floatOf (getD ns 5 0) };
     }
 
+-- ---- what a record says: the figures of a frame; or, where the version has them, a gap, whose length is 0
+pub data Entry : Type 0 where
+  figures : Figures → Entry
+  gap : Entry
+
+abbrev pub gapFields : List ℕ
+gapFields = 2 ∷ []
+
+abbrev pub gapLength : ℕ
+gapLength = size gapFields - 2
+
+-- how many bytes it takes
+abbrev pub entrySize : Entry → ℕ
+entrySize (figures f) = size recordFields
+entrySize gap = size gapFields
+
 -- ---- the bytes of each
 unfoldable pub headBytes : Version → Head → List ℕ
 unfolding written headNumbers
@@ -102,3 +123,18 @@ headBytes v h = written (headFields v) (headNumbers v h)
 unfoldable pub recordBytes : Figures → List ℕ
 unfolding written recordNumbers
 recordBytes f = written recordFields (recordNumbers f)
+
+unfoldable pub entryBytes : Entry → List ℕ
+unfolding recordBytes written
+entryBytes (figures f) = recordBytes f
+entryBytes gap = written gapFields (gapLength ∷ [])
+
+unfoldable pub entriesBytes : List Entry → List ℕ
+unfolding entryBytes
+entriesBytes [] = []
+entriesBytes (e ∷ es) = entryBytes e ++ entriesBytes es
+
+-- a whole strip: its head, and its records one after the other
+unfoldable pub stripBytes : Version → Head → List Entry → List ℕ
+unfolding headBytes entriesBytes
+stripBytes v h es = headBytes v h ++ entriesBytes es

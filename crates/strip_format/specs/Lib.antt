@@ -2,5 +2,6 @@
 pub mod Fields
 pub mod Format
 pub mod Calls
+pub mod Whole
 pub mod Steps
 pub mod Laws

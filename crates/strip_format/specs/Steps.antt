@@ -8,11 +8,11 @@ use lib.ListN.{length}
 use Rattle.bits.specs.Floats.{patternOf}
 use Rattle.units.specs.Replies.{done, cut, badLength, badVersion}
 use Rattle.strip_format.specs.Fields.{size, numberAt, written}
-use Rattle.strip_format.specs.Format.{Version, headFields, headLength, recordFields, recordLength}
+use Rattle.strip_format.specs.Format.{Version, floatFields, headFields, headLength, recordFields, recordLength}
 
 -- what a strip's head is refused with before its numbers are read: 5 for fewer than 3 bytes, 7, 6, 5
 unfoldable pub headPlace : Version → List ℕ → ℕ
-unfolding numberAt headLength size
+unfolding numberAt
 headPlace v strip =
     cond (leb 3 (length strip))
     (cond (eqb (numberAt strip 2 1) (v .number))
@@ -20,9 +20,9 @@ headPlace v strip =
     badVersion)
     cut
 
--- what a record is refused with before its figures are read: 5 for one byte, 6, 5
+-- what a record that is no gap is refused with before its figures are read: 5 for one byte, 6, 5
 unfoldable pub recordPlace : List ℕ → ℕ → ℕ
-unfolding numberAt recordLength size
+unfolding numberAt
 recordPlace strip at =
     cond (leb (at + 2) (length strip))
     (cond (eqb (numberAt strip at 2) recordLength) (cond (leb (at + size recordFields) (length strip)) done cut) badLength)
@@ -31,4 +31,4 @@ recordPlace strip at =
 -- the bytes of five floats
 unfoldable pub fiveBytes : Float → Float → Float → Float → Float → List ℕ
 unfolding written patternOf
-fiveBytes a b c d e = written (4 ∷ 4 ∷ 4 ∷ 4 ∷ 4 ∷ []) (patternOf a ∷ patternOf b ∷ patternOf c ∷ patternOf d ∷ patternOf e ∷ [])
+fiveBytes a b c d e = written floatFields (patternOf a ∷ patternOf b ∷ patternOf c ∷ patternOf d ∷ patternOf e ∷ [])

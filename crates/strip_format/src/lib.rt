@@ -7,10 +7,10 @@ ghost use Prim.Native.Nat.{_+_, _<_, _≤_};
 ghost use lib.ListN.{length, take, drop};
 ghost use Rattle.bits.specs.Floats.{floatOf, patternOf};
 ghost use Rattle.units.specs.Replies.{done};
-ghost use Rattle.strip_format.specs.Fields.{bigEndian, numberAt, fieldsAt};
-ghost use Rattle.strip_format.specs.Format.{one, headFields, headOf, headBytes, recordFields, figuresOf, recordBytes};
+ghost use Rattle.strip_format.specs.Fields.{size, bigEndian, numberAt, fieldsAt};
+ghost use Rattle.strip_format.specs.Format.{one, floatFields, headFields, headOf, headBytes, recordFields, figuresOf, recordBytes};
 ghost use Rattle.units.specs.Output.{put};
-ghost use Rattle.strip_format.specs.Calls.{headRefusal, refusedHead, judgedHead, readHead, recordRefusal, refusedRecord, judgedRecord, readRecord, putHead, putRecord};
+ghost use Rattle.strip_format.specs.Calls.{headRefusal, refusedHead, judgedHead, readHead, recordRefusal, refusedRecord, judgedRecord, readRecord, told, toldOf, putHead, putRecord};
 ghost use Rattle.strip_format.specs.Steps.{headPlace, recordPlace, fiveBytes};
 use units::figures::Figures;
 use units::kinds::Db;
@@ -23,20 +23,41 @@ use units::replies::VERSION;
 use units::replies::refusal;
 use units::settings::Settings;
 
-// The version that is read and written.
-const ONE: u32 = 1;
+// The version that is read and written: its number, the bytes of its threshold, and the largest threshold that it
+// can say.
+const VERSION_ONE: u32 = 1;
 
-// What the length field of a head says: the bytes that follow it.
-const HEAD_LENGTH: u32 = 24;
+const THRESHOLD_BYTES: usize = 1;
 
-// The bytes of a whole head.
-pub const HEAD_BYTES: usize = 26;
+const LARGEST_THRESHOLD: u32 = 200;
 
-// What the length field of a record says.
-const RECORD_LENGTH: u32 = 20;
+// The bytes of a length field, of which the second is the low one, and of five floats.
+const LENGTH_BYTES: usize = 2;
 
-// The bytes of a whole record.
-pub const RECORD_BYTES: usize = 22;
+const LENGTH_LOW: usize = LENGTH_BYTES - 1;
+
+const FLOATS_BYTES: usize = 20;
+
+// Where the fields of a head stand, after its length: the version, the threshold, the samples and the settings.
+const VERSION_AT: usize = LENGTH_BYTES;
+
+const THRESHOLD_AT: usize = VERSION_AT + 1;
+
+const SAMPLES_AT: usize = THRESHOLD_AT + THRESHOLD_BYTES;
+
+const SAMPLES_LOW: usize = SAMPLES_AT + 1;
+
+const SETTINGS_AT: usize = SAMPLES_AT + 2;
+
+// The bytes of a whole head, and what its length field says: the bytes that follow it.
+pub const HEAD_BYTES: usize = SETTINGS_AT + FLOATS_BYTES;
+
+const HEAD_LENGTH: u32 = (HEAD_BYTES - LENGTH_BYTES) as u32;
+
+// The bytes of a whole record, and what its length field says.
+pub const RECORD_BYTES: usize = LENGTH_BYTES + FLOATS_BYTES;
+
+const RECORD_LENGTH: u32 = FLOATS_BYTES as u32;
 
 // What a strip's head holds: how many adjacent speech frames make a reading, the samples of a channel, and
 // the settings.
@@ -86,27 +107,27 @@ fn float_at(strip: &[u8], at: usize) -> f32
     bits::float_of(bits)
 }
 
-// The head that the first 26 bytes are, whatever its numbers.
+// The head that the first bytes are, whatever its numbers.
 fn head_at(strip: &[u8]) -> Head
-    requires { ⌜ 26 ≤ length (now strip) ⌝ }
+    requires { ⌜ size (headFields one) ≤ length (now strip) ⌝ }
     ensures { λ r. ⌜ r ≡ headOf (fieldsAt (headFields one) (now (strip .entry)) 0) ⌝ }
 {
     Head {
-        threshold: strip[3] as u32,
-        samples: two_at(strip, 4) as usize,
+        threshold: strip[THRESHOLD_AT] as u32,
+        samples: two_at(strip, SAMPLES_AT) as usize,
         settings: Settings {
-            headroom: Db(float_at(strip, 6)),
-            largest: Db(float_at(strip, 10)),
-            initial: Db(float_at(strip, 14)),
-            change: float_at(strip, 18),
-            noise: Dbfs(float_at(strip, 22)),
+            headroom: Db(float_at(strip, SETTINGS_AT)),
+            largest: Db(float_at(strip, SETTINGS_AT + 4)),
+            initial: Db(float_at(strip, SETTINGS_AT + 8)),
+            change: float_at(strip, SETTINGS_AT + 12),
+            noise: Dbfs(float_at(strip, SETTINGS_AT + 16)),
         },
     }
 }
 
-// The figures that the 22 bytes at a place are, whatever they are.
+// The figures that the record at a place has, whatever they are.
 fn figures_at(strip: &[u8], at: usize) -> Figures
-    requires { ⌜ at + 22 ≤ length (now strip) ⌝ }
+    requires { ⌜ at + size recordFields ≤ length (now strip) ⌝ }
     ensures { λ r. ⌜ r ≡ figuresOf (fieldsAt recordFields (now (strip .entry)) at) ⌝ }
 {
     Figures {
@@ -120,10 +141,11 @@ fn figures_at(strip: &[u8], at: usize) -> Figures
 
 // What a whole head is refused with: its samples with 1, its settings or its threshold with 4.
 fn head_refusal(head: Head) -> u32
-    ensures { λ r. ⌜ r ≡ headRefusal head ⌝ }
+    ensures { λ r. ⌜ r ≡ headRefusal one head ⌝ }
 {
     let settings = head.settings;
-    let setting = settings.accepted() & units::settings::is_threshold(head.threshold);
+    let threshold = (1 <= head.threshold) & (head.threshold <= LARGEST_THRESHOLD);
+    let setting = settings.accepted() & threshold;
     refusal(frames::is_samples(head.samples), setting, true, true)
 }
 
@@ -150,7 +172,7 @@ fn refused_head(reply: u32) -> HeadRead
 
 // A record that is refused.
 fn refused_record(reply: u32) -> RecordRead
-    ensures { λ r. ⌜ r ≡ refusedRecord reply ⌝ }
+    ensures { λ r. ⌜ told r ≡ toldOf (refusedRecord reply) ⌝ }
 {
     RecordRead {
         reply,
@@ -160,7 +182,7 @@ fn refused_record(reply: u32) -> RecordRead
 
 // A whole head, where it is not refused.
 fn judged_head(head: Head) -> HeadRead
-    ensures { λ r. ⌜ r ≡ judgedHead head ⌝ }
+    ensures { λ r. ⌜ r ≡ judgedHead one head ⌝ }
 {
     let reply = head_refusal(head);
     if reply == DONE {
@@ -172,7 +194,7 @@ fn judged_head(head: Head) -> HeadRead
 
 // A whole record, where it is not refused.
 fn judged_record(figures: Figures) -> RecordRead
-    ensures { λ r. ⌜ r ≡ judgedRecord figures ⌝ }
+    ensures { λ r. ⌜ told r ≡ toldOf (judgedRecord figures) ⌝ }
 {
     let reply = record_refusal(figures);
     if reply == DONE {
@@ -190,12 +212,12 @@ fn judged_record(figures: Figures) -> RecordRead
 fn head_place(strip: &[u8]) -> u32
     ensures { λ r. ⌜ r ≡ headPlace one (now (strip .entry)) ⌝ }
 {
-    if 3 <= strip.len() {
-        let version = strip[2] as u32;
+    if THRESHOLD_AT <= strip.len() {
+        let version = strip[VERSION_AT] as u32;
         let length = two_at(strip, 0);
         let whole = floats::pick_u32(HEAD_BYTES <= strip.len(), DONE, CUT);
         let after_version = floats::pick_u32(length == HEAD_LENGTH, whole, LENGTH);
-        floats::pick_u32(version == ONE, after_version, VERSION)
+        floats::pick_u32(version == VERSION_ONE, after_version, VERSION)
     } else {
         CUT
     }
@@ -232,7 +254,7 @@ fn record_place(strip: &[u8], at: usize) -> u32
 // The record at a place of a strip; none, where the strip ends there. Refused, in this order, are a single
 // byte with 5, a wrong length with 6, a record that is cut with 5, and a figure with 2.
 pub fn read_record(strip: &[u8], at: usize) -> RecordRead
-    ensures { λ r. ⌜ r ≡ readRecord (now (strip .entry)) at ⌝ }
+    ensures { λ r. ⌜ told r ≡ toldOf (readRecord one (now (strip .entry)) at) ⌝ }
 {
     if at < strip.len() {
         let place = record_place(strip, at);
@@ -260,8 +282,8 @@ fn put_float(x: f32, out: &mut [u8], at: usize)
 
 // Stores the bits of five floats in the twenty bytes at a place.
 fn put_five(a: f32, b: f32, c: f32, d: f32, e: f32, out: &mut [u8], at: usize)
-    requires { ⌜ at + 20 ≤ length (now out) ⌝ }
-    ensures { λ _. ⌜ now (out .exit) ≡ take at (now (out .entry)) ++ fiveBytes a b c d e ++ drop (at + 20) (now (out .entry)) ⌝ }
+    requires { ⌜ at + size floatFields ≤ length (now out) ⌝ }
+    ensures { λ _. ⌜ now (out .exit) ≡ take at (now (out .entry)) ++ fiveBytes a b c d e ++ drop (at + size floatFields) (now (out .entry)) ⌝ }
 {
     put_float(a, out, at);
     put_float(b, out, at + 4);
@@ -271,16 +293,16 @@ fn put_five(a: f32, b: f32, c: f32, d: f32, e: f32, out: &mut [u8], at: usize)
 }
 
 // The bytes of a head, whatever its numbers.
-fn head_bytes(head: Head) -> [u8; 26]
+fn head_bytes(head: Head) -> [u8; HEAD_BYTES]
     ensures { λ r. ⌜ r ≡ headBytes one head ⌝ }
 {
     let settings = head.settings;
-    let mut bytes = [0u8; 26];
-    bytes[1] = 24;
-    bytes[2] = 1;
-    bytes[3] = (head.threshold % 256) as u8;
-    bytes[4] = (head.samples / 256 % 256) as u8;
-    bytes[5] = (head.samples % 256) as u8;
+    let mut bytes = [0u8; HEAD_BYTES];
+    bytes[LENGTH_LOW] = HEAD_LENGTH as u8;
+    bytes[VERSION_AT] = VERSION_ONE as u8;
+    bytes[THRESHOLD_AT] = (head.threshold % 256) as u8;
+    bytes[SAMPLES_AT] = (head.samples / 256 % 256) as u8;
+    bytes[SAMPLES_LOW] = (head.samples % 256) as u8;
     put_five(
         settings.headroom.0,
         settings.largest.0,
@@ -288,17 +310,17 @@ fn head_bytes(head: Head) -> [u8; 26]
         settings.change,
         settings.noise.0,
         &mut bytes,
-        6,
+        SETTINGS_AT,
     );
     bytes
 }
 
 // The bytes of a record, whatever its figures.
-fn record_bytes(figures: Figures) -> [u8; 22]
+fn record_bytes(figures: Figures) -> [u8; RECORD_BYTES]
     ensures { λ r. ⌜ r ≡ recordBytes figures ⌝ }
 {
-    let mut bytes = [0u8; 22];
-    bytes[1] = 20;
+    let mut bytes = [0u8; RECORD_BYTES];
+    bytes[LENGTH_LOW] = RECORD_LENGTH as u8;
     put_five(
         figures.probability,
         figures.rms.0,
@@ -306,7 +328,7 @@ fn record_bytes(figures: Figures) -> [u8; 22]
         figures.noise.0,
         figures.envelope.0,
         &mut bytes,
-        2,
+        LENGTH_BYTES,
     );
     bytes
 }
@@ -328,7 +350,7 @@ fn copy(src: &[u8], out: &mut [u8]) -> u32
 }
 
 // Writes a head to the start of a lent buffer. Refused, in this order, are samples with 1, settings with 4,
-// and a buffer of fewer than 26 bytes with 8; nothing is written then.
+// and a buffer that is too short with 8; nothing is written then.
 pub fn write_head(head: Head, out: &mut [u8]) -> u32
     ensures { λ r. ⌜ r ≡ putHead one head (now (out .entry)) .reply ⌝ }
     ensures { λ _. ⌜ now (out .exit) ≡ putHead one head (now (out .entry)) .out ⌝ }
@@ -342,8 +364,8 @@ pub fn write_head(head: Head, out: &mut [u8]) -> u32
     }
 }
 
-// Writes a record to the start of a lent buffer. Refused, in this order, are figures with 2 and a buffer of
-// fewer than 22 bytes with 8; nothing is written then.
+// Writes a record to the start of a lent buffer. Refused, in this order, are figures with 2 and a buffer that is
+// too short with 8; nothing is written then.
 pub fn write_record(figures: Figures, out: &mut [u8]) -> u32
     ensures { λ r. ⌜ r ≡ putRecord figures (now (out .entry)) .reply ⌝ }
     ensures { λ _. ⌜ now (out .exit) ≡ putRecord figures (now (out .entry)) .out ⌝ }

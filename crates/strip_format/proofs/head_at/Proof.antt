@@ -27,14 +27,26 @@ cast-t6 c = omega arith
 float-at-requires : tie.Need-float-at-requires
 float-at-requires c κs = omega arith
 
+add-float-at : tie.Need-add-float-at
+add-float-at c = omega arith
+
 float-at-requires-2 : tie.Need-float-at-requires-2
 float-at-requires-2 c κs = omega arith
+
+add-float-at-2 : tie.Need-add-float-at-2
+add-float-at-2 c = omega arith
 
 float-at-requires-3 : tie.Need-float-at-requires-3
 float-at-requires-3 c κs = omega arith
 
+add-float-at-3 : tie.Need-add-float-at-3
+add-float-at-3 c = omega arith
+
 float-at-requires-4 : tie.Need-float-at-requires-4
 float-at-requires-4 c κs = omega arith
+
+add-float-at-4 : tie.Need-add-float-at-4
+add-float-at-4 c = omega arith
 
 float-at-requires-5 : tie.Need-float-at-requires-5
 float-at-requires-5 c κs = omega arith
@@ -69,8 +81,12 @@ head-at-spec =
     two-at-requires
     cast-t6
     float-at-requires
+    add-float-at
     float-at-requires-2
+    add-float-at-2
     float-at-requires-3
+    add-float-at-3
     float-at-requires-4
+    add-float-at-4
     float-at-requires-5
     returns)

@@ -11,26 +11,32 @@ use Rattle.strip_format.specs.declared.Head.{Head}
 use Rattle.strip_format.proofs.head_bytes.Statement.{statement}
 use Rattle.strip_format.proofs.head_bytes.Tie as tie
 
-array-write-bytes : tie.Need-array-write-bytes
-array-write-bytes c = omega arith
-
-array-write-bytes-2 : tie.Need-array-write-bytes-2
-array-write-bytes-2 c = omega arith
-
 cast-bytes : tie.Need-cast-bytes
 cast-bytes c = omega arith
 
-array-write-bytes-3 : tie.Need-array-write-bytes-3
-array-write-bytes-3 c = omega arith
+array-write-bytes : tie.Need-array-write-bytes
+array-write-bytes c = omega arith
 
 cast-bytes-2 : tie.Need-cast-bytes-2
 cast-bytes-2 c = omega arith
 
-array-write-bytes-4 : tie.Need-array-write-bytes-4
-array-write-bytes-4 c = omega arith
+array-write-bytes-2 : tie.Need-array-write-bytes-2
+array-write-bytes-2 c = omega arith
 
 cast-bytes-3 : tie.Need-cast-bytes-3
 cast-bytes-3 c = omega arith
+
+array-write-bytes-3 : tie.Need-array-write-bytes-3
+array-write-bytes-3 c = omega arith
+
+cast-bytes-4 : tie.Need-cast-bytes-4
+cast-bytes-4 c = omega arith
+
+array-write-bytes-4 : tie.Need-array-write-bytes-4
+array-write-bytes-4 c = omega arith
+
+cast-bytes-5 : tie.Need-cast-bytes-5
+cast-bytes-5 c = omega arith
 
 array-write-bytes-5 : tie.Need-array-write-bytes-5
 array-write-bytes-5 c = omega arith
@@ -46,7 +52,7 @@ bytes-are : (h : Head)
     ++ fiveBytes (h .settings .headroom .0) (h .settings .largest .0) (h .settings .initial .0) (h .settings .change) (h .settings .noise .0)
     ++ []
     ≡ headBytes one h
-unfolding headBytes headNumbers headLength size written fiveBytes bigEndian
+unfolding headBytes headNumbers written fiveBytes bigEndian
 bytes-are h = refl
 
 returns : tie.Need-returns
@@ -56,13 +62,15 @@ pub head-bytes-spec : {M : Type 1} → statement M
 head-bytes-spec =
     tie.close
     (tie.spec
-    array-write-bytes
-    array-write-bytes-2
     cast-bytes
-    array-write-bytes-3
+    array-write-bytes
     cast-bytes-2
-    array-write-bytes-4
+    array-write-bytes-2
     cast-bytes-3
+    array-write-bytes-3
+    cast-bytes-4
+    array-write-bytes-4
+    cast-bytes-5
     array-write-bytes-5
     slice-aggregate-put-five
     put-five-requires

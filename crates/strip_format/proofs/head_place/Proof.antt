@@ -10,7 +10,7 @@ use lib.Dec.{eqb, leb}
 use lib.ListN.{length, getD}
 use Rattle.units.specs.Replies.{done, cut, badLength, badVersion}
 use Rattle.strip_format.specs.Fields.{size, numberAt}
-use Rattle.strip_format.specs.Format.{one, headLength}
+use Rattle.strip_format.specs.Format.{one, headFields, headLength}
 use Rattle.strip_format.specs.Steps.{headPlace}
 use Rattle.strip_format.proofs.head_place.Statement.{statement}
 use Rattle.strip_format.proofs.head_place.Tie as tie
@@ -38,9 +38,9 @@ unfolding numberAt
 third-byte strip = rw zero-add
 
 place : (strip : List ℕ) (length′ whole after r : ℕ) → 3 ≤ length strip
-    → length′ ≡ numberAt strip 0 2 → whole ≡ cond (leb 26 (length strip)) done cut → after ≡ cond (eqb length′ 24) whole badLength
+    → length′ ≡ numberAt strip 0 2 → whole ≡ cond (leb (size (headFields one)) (length strip)) done cut → after ≡ cond (eqb length′ (headLength one)) whole badLength
     → r ≡ cond (eqb (getD strip 2 0) 1) after badVersion → r ≡ headPlace one strip
-unfolding headPlace headLength size
+unfolding headPlace
 place strip length′ whole after r h p q s t = rw (le-leb 3 (length strip) h, third-byte strip, ← p, ← q, ← s) t
 
 returns : tie.Need-returns

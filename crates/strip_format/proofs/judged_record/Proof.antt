@@ -1,6 +1,7 @@
 -- `strip_format::judged_record` meets its contract. Assumes nothing.
+use mathlib.Core.Path.{refl}
 use borrow.Author.Tests.{eq-eqb, ne-eqb}
-use Rattle.strip_format.specs.Calls.{judgedRecord}
+use Rattle.strip_format.specs.Calls.{found, judgedRecord, told, toldOf}
 use Rattle.strip_format.proofs.judged_record.Statement.{statement}
 use Rattle.strip_format.proofs.judged_record.Tie as tie
 
@@ -11,7 +12,7 @@ refused-record-requires : tie.Need-refused-record-requires
 refused-record-requires c κs = tt
 
 returns : tie.Need-returns
-unfolding judgedRecord
+unfolding judgedRecord found told toldOf
 returns c = rw (← c .before .record-refusal .ensures, eq-eqb _ _ (c .if1 .taken))
 
 returns-2 : tie.Need-returns-2

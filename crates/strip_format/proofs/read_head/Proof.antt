@@ -18,7 +18,6 @@ head-place-requires : tie.Need-head-place-requires
 head-place-requires c κs = tt
 
 head-at-requires : tie.Need-head-at-requires
-unfolding size
 head-at-requires c κs = head-there one (c .before .before .before .args .strip .now) (sym (c .before .head-place .ensures) ∙ c .if1 .taken) .whole
 
 judged-head-requires : tie.Need-judged-head-requires
@@ -28,8 +27,8 @@ refused-head-requires : tie.Need-refused-head-requires
 refused-head-requires c κs = tt
 
 whole : (strip : List ℕ) (place : ℕ) (head : Head) (r : HeadRead) → place ≡ headPlace one strip → place ≡ done
-    → head ≡ headOf (fieldsAt (headFields one) strip 0) → r ≡ judgedHead head → r ≡ readHead one strip
-whole strip place head r p d h k = k ∙ ap judgedHead h ∙ sym (head-by-place one strip ∙ rw (← p, d))
+    → head ≡ headOf (fieldsAt (headFields one) strip 0) → r ≡ judgedHead one head → r ≡ readHead one strip
+whole strip place head r p d h k = k ∙ ap (judgedHead one) h ∙ sym (head-by-place one strip ∙ rw (← p, d))
 
 refused : (strip : List ℕ) (place : ℕ) (r : HeadRead) → place ≡ headPlace one strip → (place ≡ done → ⊥)
     → r ≡ refusedHead place → r ≡ readHead one strip

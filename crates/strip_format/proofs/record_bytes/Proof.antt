@@ -10,6 +10,9 @@ use Rattle.units.specs.declared.figures.Figures.{Figures}
 use Rattle.strip_format.proofs.record_bytes.Statement.{statement}
 use Rattle.strip_format.proofs.record_bytes.Tie as tie
 
+cast-bytes : tie.Need-cast-bytes
+cast-bytes c = omega arith
+
 array-write-bytes : tie.Need-array-write-bytes
 array-write-bytes c = omega arith
 
@@ -21,7 +24,7 @@ put-five-requires c κs = search needs
 
 bytes-are : (f : Figures)
     → (0 ∷ 20 ∷ []) ++ fiveBytes (f .probability) (f .rms .0) (f .peak .0) (f .noise .0) (f .envelope .0) ++ [] ≡ recordBytes f
-unfolding recordBytes recordNumbers recordLength size written fiveBytes bigEndian
+unfolding recordBytes recordNumbers written fiveBytes bigEndian
 bytes-are f = refl
 
 returns : tie.Need-returns
@@ -29,4 +32,4 @@ returns c = c .before .put-five .ensures ∙ bytes-are (c .before .before .befor
 
 pub record-bytes-spec : {M : Type 1} → statement M
 record-bytes-spec =
-    tie.close (tie.spec array-write-bytes slice-aggregate-put-five put-five-requires returns)
+    tie.close (tie.spec cast-bytes array-write-bytes slice-aggregate-put-five put-five-requires returns)

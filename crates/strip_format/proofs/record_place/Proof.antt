@@ -9,7 +9,7 @@ use lib.Dec.{eqb, leb}
 use lib.ListN.{length}
 use Rattle.units.specs.Replies.{done, cut, badLength}
 use Rattle.strip_format.specs.Fields.{size, numberAt}
-use Rattle.strip_format.specs.Format.{recordLength}
+use Rattle.strip_format.specs.Format.{recordFields, recordLength}
 use Rattle.strip_format.specs.Steps.{recordPlace}
 use Rattle.strip_format.specs.Laws.Steps.{left-enough}
 use Rattle.strip_format.proofs.record_place.Statement.{statement}
@@ -28,11 +28,11 @@ pick-u32-requires-2 : tie.Need-pick-u32-requires-2
 pick-u32-requires-2 c κs = tt
 
 place : (strip : List ℕ) (at length′ whole r : ℕ) → at < length strip → 2 ≤ length strip - at
-    → length′ ≡ numberAt strip at 2 → whole ≡ cond (leb 22 (length strip - at)) done cut → r ≡ cond (eqb length′ 20) whole badLength
+    → length′ ≡ numberAt strip at 2 → whole ≡ cond (leb (size recordFields) (length strip - at)) done cut → r ≡ cond (eqb length′ recordLength) whole badLength
     → r ≡ recordPlace strip at
-unfolding recordPlace recordLength size
+unfolding recordPlace
 place strip at length′ whole r l h p q s =
-    rw (le-leb (at + 2) (length strip) (omega arith), ← left-enough 22 (length strip) at l, ← p, ← q) s
+    rw (le-leb (at + 2) (length strip) (omega arith), ← left-enough (size recordFields) (length strip) at l, ← p, ← q) s
 
 returns : tie.Need-returns
 returns c =

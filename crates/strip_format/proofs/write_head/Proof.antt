@@ -32,7 +32,7 @@ returns c =
     let start = at-reply .before .before in
     let x = start .args .head in
     let same =
-    put-taken (headRefusal x) (at-reply .head-refusal .result) (headBytes one x) (at-bytes .head-bytes .result) (start .args .out .now) (at-bytes .head-bytes .ensures)
+    put-taken (headRefusal one x) (at-reply .head-refusal .result) (headBytes one x) (at-bytes .head-bytes .result) (start .args .out .now) (at-bytes .head-bytes .ensures)
     (at-reply .head-refusal .ensures) (at-bytes .before .if1 .taken) in
     (at-copy .copy .ensures .0 ∙ ap (λ (p : Put). p .reply) same, at-copy .copy .ensures .1 ∙ ap (λ (p : Put). p .out) same)
 
@@ -42,7 +42,7 @@ returns-2 c =
     let at-reply = c .before in
     let start = at-reply .before .before in
     let x = start .args .head in
-    let same = put-left (headRefusal x) (at-reply .head-refusal .result) (headBytes one x) (start .args .out .now) (at-reply .head-refusal .ensures) (c .if1 .left) in
+    let same = put-left (headRefusal one x) (at-reply .head-refusal .result) (headBytes one x) (start .args .out .now) (at-reply .head-refusal .ensures) (c .if1 .left) in
     (ap (λ (p : Put). p .reply) same, ap (λ (p : Put). p .out) same)
 
 pub write-head-spec : {M : Type 1} → statement M

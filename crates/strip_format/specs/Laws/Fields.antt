@@ -64,7 +64,7 @@ number-rewrites bytes at (suc w) b l =
 -- ---- a description
 -- The bytes of numbers are as many as the description says.
 pub written-length : (ws ns : List ℕ) → Fits ws ns → length (written ws ns) ≡ size ws
-unfolding Fits written size
+unfolding Fits written
 written-length [] [] h = refl
 written-length [] (n ∷ ns) h = absurd h
 written-length (w ∷ ws) [] h = absurd h
@@ -90,7 +90,7 @@ numbers-back ws ns pre post h = rw append-assoc (back ws ns pre post h)
 -- What is read by a description is written back by it.
 pub bytes-back : (ws bytes : List ℕ) (at : ℕ) → Bytes bytes → at + size ws ≤ length bytes
     → written ws (fieldsAt ws bytes at) ≡ take (size ws) (drop at bytes)
-unfolding written fieldsAt size
+unfolding written fieldsAt
 bytes-back [] bytes at b l = refl
 bytes-back (w ∷ ws) bytes at b l =
     rw (

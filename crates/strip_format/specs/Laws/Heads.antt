@@ -19,18 +19,19 @@ use Rattle.frames.specs.Shape.{isSamples}
 use Rattle.frames.specs.Facts.{samples-facts}
 use Rattle.strip_format.specs.Fields.{numberAt, size, written, fieldsAt}
 use Rattle.strip_format.specs.Format.{Version, one, headFields, headLength, headNumbers, headOf, headBytes}
-use Rattle.strip_format.specs.Calls.{headRefusal, refusedHead, judgedHead, readHead, putHead}
+use Rattle.strip_format.specs.Calls.{isThreshold, headRefusal, refusedHead, judgedHead, readHead, putHead}
 use Rattle.strip_format.specs.Steps.{headPlace}
 use Rattle.strip_format.specs.Laws.Steps.{HeadThere, head-by-place, head-there, head-placed, put-done}
-use Rattle.strip_format.specs.Laws.Fields.{Fits, Bytes, number-small, written-length, numbers-back, bytes-back}
+use Rattle.strip_format.specs.Laws.Fields.{Fits, Bytes, written-length, numbers-back, bytes-back}
 use Rattle.strip_format.specs.Laws.NoNan.{PlainSettings, plain-settings, same-bits}
 use Rattle.strip_format.specs.declared.Head.{Head}
 use Rattle.strip_format.specs.declared.HeadRead.{HeadRead}
 
--- a version whose number is a byte, and whose head's length fits the two bytes that say it
+-- a version whose number is a byte, whose head's length fits the two bytes that say it, and whose largest threshold fits its own
 pub record Usable (v : Version) : Type 0 where
   pub number : v .number < 256
   pub long : headLength v < 65536
+  pub said : v .largest < 256 ^ v .threshold
 
 -- the settings are floats of 32 bits, as all that the code holds are
 pub record Held (h : Head) : Type 0 where
@@ -41,35 +42,37 @@ pub record Held (h : Head) : Type 0 where
   pub noise : T (fits binary32 (h .settings .noise .0))
 
 -- what an accepted head is known to be
-record Accepted (h : Head) : Type 0 where
-  threshold : h .threshold < 256
+record Accepted (v : Version) (h : Head) : Type 0 where
+  threshold : h .threshold < 256 ^ v .threshold
   samples : h .samples < 65536
   plain : PlainSettings (h .settings)
 
-accepted-is : (h : Head) → headRefusal h ≡ done → Accepted h
+plain-head : (v : Version) (h : Head) → headRefusal v h ≡ done → PlainSettings (h .settings)
 unfolding headRefusal
-accepted-is h e =
+plain-head v h e =
+    plain-settings (h .settings)
+    (each-of (Settings.accepted (h .settings) ∷ isThreshold v (h .threshold) ∷ []) (none-refused (isSamples (h .samples)) _ true true e .1) 0)
+
+accepted-is : (v : Version) (h : Head) → Usable v → headRefusal v h ≡ done → Accepted v h
+unfolding headRefusal
+accepted-is v h u e =
     let s = h .samples in
-    let parts = none-refused (isSamples s) (Settings.accepted (h .settings) && Settings.threshold (h .threshold)) true true e in
+    let parts = none-refused (isSamples s) (Settings.accepted (h .settings) && isThreshold v (h .threshold)) true true e in
     let upper : s ≤ 480 = samples-facts s (parts .0) .most in
-    let p = each-of (Settings.accepted (h .settings) ∷ Settings.threshold (h .threshold) ∷ []) (parts .1) in
-    let most : h .threshold ≤ 200 = leb-true (h .threshold) 200 (each-of (leb 1 (h .threshold) ∷ leb (h .threshold) 200 ∷ []) (p 1) 1) in
-    record {
-      threshold = omega arith;
-      samples = omega arith;
-      plain = plain-settings (h .settings) (p 0);
-    }
+    let p = each-of (Settings.accepted (h .settings) ∷ isThreshold v (h .threshold) ∷ []) (parts .1) in
+    let most : h .threshold ≤ v .largest = leb-true (h .threshold) (v .largest) (each-of (leb 1 (h .threshold) ∷ leb (h .threshold) (v .largest) ∷ []) (p 1) 1) in
+    record { threshold = omega (arith, u .said); samples = omega arith; plain = plain-head v h e }
 
 module _ (v : Version) where
   -- ---- written, then read
-  fits-fields : (h : Head) → Usable v → Held h → h .threshold < 256 ^ v .threshold → Accepted h → Fits (headFields v) (headNumbers v h)
+  fits-fields : (h : Head) → Usable v → Held h → Accepted v h → Fits (headFields v) (headNumbers v h)
   unfolding Fits headNumbers
-  fits-fields h u p t a = (
+  fits-fields h u p a = (
     u .long,
     (
       u .number,
       (
-        t,
+        a .threshold,
         (
           a .samples,
           (
@@ -108,29 +111,34 @@ module _ (v : Version) where
         whole = rw (s, length-append, written-length (headFields v) (headNumbers v h) f) (omega arith);
       }
 
-  accepted-reads : (strip : List ℕ) (h : Head) → HeadThere v strip → headOf (fieldsAt (headFields v) strip 0) ≡ h → headRefusal h ≡ done
+  accepted-reads : (strip : List ℕ) (h : Head) → HeadThere v strip → headOf (fieldsAt (headFields v) strip 0) ≡ h → headRefusal v h ≡ done
       → readHead v strip ≡ record { reply = done; head = h }
   unfolding judgedHead
   accepted-reads strip h t e r = head-by-place v strip ∙ rw (head-placed v strip t, e, r)
 
   -- What is written reads back equal, whatever follows it.
-  pub written-head-reads : (h : Head) (rest : List ℕ) → Usable v → Held h → h .threshold < 256 ^ v .threshold → headRefusal h ≡ done
+  pub written-head-reads : (h : Head) (rest : List ℕ) → Usable v → Held h → headRefusal v h ≡ done
       → readHead v (headBytes v h ++ rest) ≡ record { reply = done; head = h }
   unfolding headBytes
-  written-head-reads h rest u p t r =
-      let a = accepted-is h r in
-      let f = fits-fields h u p t a in
+  written-head-reads h rest u p r =
+      let a = accepted-is v h u r in
+      let f = fits-fields h u p a in
       let e = numbers-back (headFields v) (headNumbers v h) [] rest f in
       let strip = headBytes v h ++ rest in
       accepted-reads strip h (there strip rest h f refl e) (ap headOf e ∙ head-of-numbers h p (a .plain)) r
 
+  -- A head has as many bytes as its description says.
+  pub head-length : (h : Head) → Usable v → Held h → headRefusal v h ≡ done → length (headBytes v h) ≡ size (headFields v)
+  unfolding headBytes
+  head-length h u p r = written-length (headFields v) (headNumbers v h) (fits-fields h u p (accepted-is v h u r))
+
   -- What was put into a buffer reads back equal from it.
-  pub put-head-reads : (h : Head) (out : List ℕ) → Usable v → Held h → h .threshold < 256 ^ v .threshold → putHead v h out .reply ≡ done
+  pub put-head-reads : (h : Head) (out : List ℕ) → Usable v → Held h → putHead v h out .reply ≡ done
       → readHead v (putHead v h out .out) ≡ record { reply = done; head = h }
   unfolding putHead
-  put-head-reads h out u p t e =
-      let d = put-done (headRefusal h) (headBytes v h) out e in
-      ap (readHead v) (d .1) ∙ written-head-reads h (drop (length (headBytes v h)) out) u p t (d .0)
+  put-head-reads h out u p e =
+      let d = put-done (headRefusal v h) (headBytes v h) out e in
+      ap (readHead v) (d .1) ∙ written-head-reads h (drop (length (headBytes v h)) out) u p (d .0)
 
   -- ---- read, then written
   settled : (n : ℕ) (x : HeadRead) → cond (eqb n done) x (refusedHead n) .reply ≡ done → n ≡ done
@@ -145,17 +153,21 @@ module _ (v : Version) where
   module _ (strip : List ℕ) (e : readHead v strip .reply ≡ done) where
     placed : headPlace v strip ≡ done
     placed =
-        settled (headPlace v strip) (judgedHead (headOf (fieldsAt (headFields v) strip 0)))
+        settled (headPlace v strip) (judgedHead v (headOf (fieldsAt (headFields v) strip 0)))
         (sym (ap (λ (r : HeadRead). r .reply) (head-by-place v strip)) ∙ e)
 
-    judged : readHead v strip ≡ judgedHead (headOf (fieldsAt (headFields v) strip 0))
+    -- What was accepted is there whole.
+    pub head-stood : HeadThere v strip
+    head-stood = head-there v strip placed
+
+    judged : readHead v strip ≡ judgedHead v (headOf (fieldsAt (headFields v) strip 0))
     judged = head-by-place v strip ∙ rw placed
 
-    pub read-not-refused : headRefusal (headOf (fieldsAt (headFields v) strip 0)) ≡ done
+    pub read-not-refused : headRefusal v (headOf (fieldsAt (headFields v) strip 0)) ≡ done
     unfolding judgedHead
     read-not-refused =
         let h = headOf (fieldsAt (headFields v) strip 0) in
-        settled (headRefusal h) (record { reply = done; head = h }) (sym (ap (λ (r : HeadRead). r .reply) judged) ∙ e)
+        settled (headRefusal v h) (record { reply = done; head = h }) (sym (ap (λ (r : HeadRead). r .reply) judged) ∙ e)
 
     read-is : readHead v strip .head ≡ headOf (fieldsAt (headFields v) strip 0)
     unfolding judgedHead
@@ -169,7 +181,7 @@ module _ (v : Version) where
 
   rewritten : (strip : List ℕ) → Bytes strip → HeadThere v strip → PlainSettings (headOf (fieldsAt (headFields v) strip 0) .settings)
       → headNumbers v (headOf (fieldsAt (headFields v) strip 0)) ≡ fieldsAt (headFields v) strip 0
-  unfolding fieldsAt headOf size
+  unfolding fieldsAt headOf
   rewritten strip b t n =
       let at = 3 + v .threshold + 2 in
       let whole = t .whole in
@@ -185,26 +197,25 @@ module _ (v : Version) where
       → headBytes v (readHead v strip .head) ≡ take (size (headFields v)) strip
   unfolding headBytes
   read-head-rewrites strip b e =
-      let t = head-there v strip (placed strip e) in
+      let t = head-stood strip e in
       let h = headOf (fieldsAt (headFields v) strip 0) in
       ap (headBytes v) (read-is strip e)
-      ∙ ap (written (headFields v)) (rewritten strip b t (accepted-is h (read-not-refused strip e) .plain))
+      ∙ ap (written (headFields v)) (rewritten strip b t (plain-head v h (read-not-refused strip e)))
       ∙ bytes-back (headFields v) strip 0 b (omega (arith, t .whole))
 
   -- No NaN is read.
   pub read-head-no-nan : (strip : List ℕ) → readHead v strip .reply ≡ done → PlainSettings (readHead v strip .head .settings)
   read-head-no-nan strip e =
       subst (λ (h : Head). PlainSettings (h .settings)) (sym (read-is strip e))
-      (accepted-is (headOf (fieldsAt (headFields v) strip 0)) (read-not-refused strip e) .plain)
+      (plain-head v (headOf (fieldsAt (headFields v) strip 0)) (read-not-refused strip e))
 
   -- ---- exactly
-  -- A strip begins with the bytes of a head that is accepted and that the version can say.
+  -- A strip begins with the bytes of a head that is accepted.
   pub record Begins (strip : List ℕ) : Type 0 where
     pub head : Head
     pub rest : List ℕ
     pub held : Held head
-    pub threshold : head .threshold < 256 ^ v .threshold
-    pub accepted : headRefusal head ≡ done
+    pub accepted : headRefusal v head ≡ done
     pub is : strip ≡ headBytes v head ++ rest
 
   held-head : (strip : List ℕ) → Held (headOf (fieldsAt (headFields v) strip 0))
@@ -219,10 +230,6 @@ module _ (v : Version) where
         noise = float-fits (getD ns 8 0);
       }
 
-  small-threshold : (strip : List ℕ) → Bytes strip → HeadThere v strip → headOf (fieldsAt (headFields v) strip 0) .threshold < 256 ^ v .threshold
-  unfolding headOf fieldsAt size
-  small-threshold strip b t = let whole = t .whole in number-small strip 3 (v .threshold) b (omega arith)
-
   -- The reader accepts a strip exactly where it begins with the bytes of such a head.
   pub heads-accepted-exactly : (strip : List ℕ) → Usable v → Bytes strip
       → (readHead v strip .reply ≡ done → Begins strip) × (Begins strip → readHead v strip .reply ≡ done)
@@ -230,13 +237,12 @@ module _ (v : Version) where
     where
       only : readHead v strip .reply ≡ done → Begins strip
       only e =
-          let t = head-there v strip (placed strip e) in
+          let t = head-stood strip e in
           let h = headOf (fieldsAt (headFields v) strip 0) in
           record {
             head = h;
             rest = drop (size (headFields v)) strip;
             held = held-head strip;
-            threshold = small-threshold strip b t;
             accepted = read-not-refused strip e;
             is =
                 sym
@@ -248,13 +254,8 @@ module _ (v : Version) where
       every : Begins strip → readHead v strip .reply ≡ done
       every s =
           ap (λ (l : List ℕ). readHead v l .reply) (s .is)
-          ∙ ap (λ (r : HeadRead). r .reply) (written-head-reads (s .head) (s .rest) u (s .held) (s .threshold) (s .accepted))
+          ∙ ap (λ (r : HeadRead). r .reply) (written-head-reads (s .head) (s .rest) u (s .held) (s .accepted))
 
 -- ---- version 1
 pub usable-one : Usable one
-unfolding headLength size
-usable-one = record { number = omega arith; long = omega arith }
-
--- A threshold that is accepted fits version 1's one byte.
-pub threshold-one : (h : Head) → headRefusal h ≡ done → h .threshold < 256 ^ one .threshold
-threshold-one h e = accepted-is h e .threshold
+usable-one = record { number = omega arith; long = omega arith; said = omega arith }

@@ -10,13 +10,12 @@ use lib.Dec.{eqb}
 use lib.ListN.{length, drop}
 use Rattle.units.specs.Replies.{done, cut, badLength, badVersion, noRoom}
 use Rattle.strip_format.specs.Fields.{size, numberAt, fieldsAt}
-use Rattle.strip_format.specs.Format.{Version, headFields, headLength, headOf, recordFields, recordLength, figuresOf}
+use Rattle.strip_format.specs.Format.{Version, headFields, headLength, headOf, recordFields, recordLength, figuresOf, figures, gap}
 use Rattle.units.specs.Output.{put}
-use Rattle.strip_format.specs.Calls.{headRefusal, refusedHead, judgedHead, readHead, recordRefusal, refusedRecord, ended, judgedRecord, readRecord}
-use Rattle.strip_format.specs.Laws.Steps.{HeadThere, RecordThere, head-by-place, head-placed, record-by-place, record-placed}
+use Rattle.strip_format.specs.Calls.{headRefusal, refusedHead, judgedHead, readHead, recordRefusal, refusedRecord, ended, found, isGap, judgedRecord, readRecord}
+use Rattle.strip_format.specs.Laws.Steps.{HeadThere, RecordThere, head-by-place, head-placed, record-by-place, no-gap, record-placed}
 use Rattle.units.specs.declared.figures.Figures.{Figures}
 use Rattle.strip_format.specs.declared.Head.{Head}
-use Rattle.strip_format.specs.declared.Found.the-variants.{Record}
 
 module _ (v : Version) (strip : List ℕ) where
   -- "fewer than 3 bytes 5"
@@ -49,62 +48,68 @@ module _ (v : Version) (strip : List ℕ) where
       )
 
   -- "then 1, 4": a head that is there whole is refused as its numbers are
-  pub head-judged : HeadThere v strip → readHead v strip ≡ judgedHead (headOf (fieldsAt (headFields v) strip 0))
+  pub head-judged : HeadThere v strip → readHead v strip ≡ judgedHead v (headOf (fieldsAt (headFields v) strip 0))
   head-judged t = head-by-place v strip ∙ rw (head-placed v strip t)
 
 -- and where its numbers are not refused, it is the answer
-pub judged-head-reply : (h : Head) → judgedHead h .reply ≡ headRefusal h
+pub judged-head-reply : (v : Version) (h : Head) → judgedHead v h .reply ≡ headRefusal v h
 unfolding judgedHead refusedHead
-judged-head-reply h = go (eqb (headRefusal h) done) refl
+judged-head-reply v h = go (eqb (headRefusal v h) done) refl
   where
-    go : (b : Bool) → eqb (headRefusal h) done ≡ b
-        → cond b (record { reply = done; head = h }) (refusedHead (headRefusal h)) .reply ≡ headRefusal h
-    go true e = sym (eqb-true (headRefusal h) done e)
+    go : (b : Bool) → eqb (headRefusal v h) done ≡ b
+        → cond b (record { reply = done; head = h }) (refusedHead (headRefusal v h)) .reply ≡ headRefusal v h
+    go true e = sym (eqb-true (headRefusal v h) done e)
     go false e = refl
 
-module _ (strip : List ℕ) (at : ℕ) where
+module _ (v : Version) (strip : List ℕ) (at : ℕ) where
   -- "no byte, end": done, and no record
-  pub record-none : length strip ≤ at → readRecord strip at ≡ ended
+  pub record-none : length strip ≤ at → readRecord v strip at ≡ ended
   unfolding readRecord
   record-none h = rw (le-ltb at (length strip) h)
 
   -- "one byte 5"
-  pub record-one-byte : at + 1 ≡ length strip → readRecord strip at ≡ refusedRecord cut
+  pub record-one-byte : at + 1 ≡ length strip → readRecord v strip at ≡ refusedRecord cut
   unfolding readRecord
   record-one-byte h = rw (lt-ltb at (length strip) (omega arith), lt-leb (at + 2) (length strip) (omega arith))
 
-  -- "length 6", whether or not the record is there whole
-  pub record-wrong-length : at + 2 ≤ length strip → (numberAt strip at 2 ≡ recordLength → ⊥) → readRecord strip at ≡ refusedRecord badLength
+  -- a gap, where the version has them
+  pub record-gap : at + 2 ≤ length strip → isGap v (numberAt strip at 2) ≡ true → readRecord v strip at ≡ found gap
   unfolding readRecord
-  record-wrong-length h n =
-      rw (lt-ltb at (length strip) (omega arith), le-leb (at + 2) (length strip) h, ne-eqb (numberAt strip at 2) recordLength n)
+  record-gap h g = rw (lt-ltb at (length strip) (omega arith), le-leb (at + 2) (length strip) h, g)
+
+  -- "length 6", whether or not the record is there whole
+  pub record-wrong-length : at + 2 ≤ length strip → isGap v (numberAt strip at 2) ≡ false → (numberAt strip at 2 ≡ recordLength → ⊥)
+      → readRecord v strip at ≡ refusedRecord badLength
+  unfolding readRecord
+  record-wrong-length h g n =
+      rw (lt-ltb at (length strip) (omega arith), le-leb (at + 2) (length strip) h, g, ne-eqb (numberAt strip at 2) recordLength n)
 
   -- "cut 5"
   pub record-cut : at + 2 ≤ length strip → numberAt strip at 2 ≡ recordLength → length strip < at + size recordFields
-      → readRecord strip at ≡ refusedRecord cut
+      → readRecord v strip at ≡ refusedRecord cut
   unfolding readRecord
   record-cut h n c =
       rw (
         lt-ltb at (length strip) (omega arith),
         le-leb (at + 2) (length strip) h,
+        no-gap v (numberAt strip at 2) n,
         eq-eqb (numberAt strip at 2) recordLength n,
         lt-leb (at + size recordFields) (length strip) c,
       )
 
   -- "then 2": a record that is there whole is refused as its figures are
-  pub record-judged : RecordThere strip at → readRecord strip at ≡ judgedRecord (figuresOf (fieldsAt recordFields strip at))
-  unfolding size
+  pub record-judged : RecordThere strip at → readRecord v strip at ≡ judgedRecord (figuresOf (fieldsAt recordFields strip at))
   record-judged t =
       let whole = t .whole in
-      record-by-place strip at ∙ rw (lt-ltb at (length strip) (omega arith), record-placed strip at t)
+      record-by-place v strip at (no-gap v (numberAt strip at 2) (t .says)) ∙ rw (lt-ltb at (length strip) (omega arith), record-placed strip at t)
 
 -- and where its figures are not refused, they are the answer
 pub judged-record-reply : (f : Figures) → judgedRecord f .reply ≡ recordRefusal f
-unfolding judgedRecord refusedRecord
+unfolding judgedRecord refusedRecord found
 judged-record-reply f = go (eqb (recordRefusal f) done) refl
   where
     go : (b : Bool) → eqb (recordRefusal f) done ≡ b
-        → cond b (record { reply = done; found = Record f }) (refusedRecord (recordRefusal f)) .reply ≡ recordRefusal f
+        → cond b (found (figures f)) (refusedRecord (recordRefusal f)) .reply ≡ recordRefusal f
     go true e = sym (eqb-true (recordRefusal f) done e)
     go false e = refl
 

@@ -1,7 +1,7 @@
 -- Reading and writing, step by step: what the steps answer together is what `Calls` says. Laws.
 -- Assumes nothing.
 use mathlib.Core.Path.{_≡_, refl, sym, ap}
-use mathlib.Core.Bool.{Bool, true, false, cond}
+use mathlib.Core.Bool.{Bool, true, false, _&&_, cond}
 use mathlib.Core.List.{List, _++_}
 use Prim.Native.Nat.{ℕ, _+_, _-_, _≤_, _<_}
 use native.Mathlib.Omega.{arith}
@@ -11,11 +11,10 @@ use lib.ListN.{length, take, drop}
 use lib.Seq.{take-at, drop-drop, drop-at}
 use Rattle.units.specs.Replies.{done, cut, badLength, badVersion}
 use Rattle.strip_format.specs.Fields.{size, numberAt, fieldsAt}
-use Rattle.strip_format.specs.Format.{Version, headFields, headLength, headOf, recordFields, recordLength, figuresOf}
+use Rattle.strip_format.specs.Format.{Version, headFields, headLength, headOf, recordFields, recordLength, gapLength, figuresOf}
 use Rattle.units.specs.Output.{put}
-use Rattle.strip_format.specs.Calls.{refusedHead, judgedHead, readHead, refusedRecord, judgedRecord, ended, readRecord}
+use Rattle.strip_format.specs.Calls.{Read, refusedHead, judgedHead, readHead, refusedRecord, judgedRecord, isGap, ended, readRecord}
 use Rattle.strip_format.specs.Steps.{headPlace, recordPlace}
-use Rattle.strip_format.specs.declared.RecordRead.{RecordRead}
 
 -- Four tests one after the other, each with its own refusal: the first that fails says the number.
 abbrev first : Bool → Bool → Bool → Bool → ℕ
@@ -39,10 +38,10 @@ passed false b c d e = absurd (omega arith)
 -- A head is read where its place is right, and refused with the place's number where it is not.
 pub head-by-place : (v : Version) (strip : List ℕ)
     → readHead v strip
-    ≡ cond (eqb (headPlace v strip) done) (judgedHead (headOf (fieldsAt (headFields v) strip 0))) (refusedHead (headPlace v strip))
+    ≡ cond (eqb (headPlace v strip) done) (judgedHead v (headOf (fieldsAt (headFields v) strip 0))) (refusedHead (headPlace v strip))
 unfolding readHead headPlace
 head-by-place v strip =
-    nested refusedHead (judgedHead (headOf (fieldsAt (headFields v) strip 0))) (leb 3 (length strip)) (eqb (numberAt strip 2 1) (v .number))
+    nested refusedHead (judgedHead v (headOf (fieldsAt (headFields v) strip 0))) (leb 3 (length strip)) (eqb (numberAt strip 2 1) (v .number))
     (eqb (numberAt strip 0 2) (headLength v)) (leb (size (headFields v)) (length strip))
 
 -- A head's place is right: its version, its length, and the head is there whole.
@@ -64,7 +63,7 @@ head-there v strip e =
     }
 
 pub head-placed : (v : Version) (strip : List ℕ) → HeadThere v strip → headPlace v strip ≡ done
-unfolding headPlace size
+unfolding headPlace
 head-placed v strip t =
     rw (
       le-leb 3 (length strip) (omega (arith, t .whole)),
@@ -73,17 +72,26 @@ head-placed v strip t =
       le-leb (size (headFields v)) (length strip) (t .whole),
     )
 
--- A record is read where its place is right; at the strip's end there is none.
-pub record-by-place : (strip : List ℕ) (at : ℕ)
-    → readRecord strip at
+-- A record whose length says no gap is read where its place is right; at the strip's end there is none.
+pub record-by-place : (v : Version) (strip : List ℕ) (at : ℕ) → isGap v (numberAt strip at 2) ≡ false
+    → readRecord v strip at
     ≡ cond (ltb at (length strip))
     (cond (eqb (recordPlace strip at) done) (judgedRecord (figuresOf (fieldsAt recordFields strip at))) (refusedRecord (recordPlace strip at)))
     (refusedRecord done)
 unfolding readRecord recordPlace ended refusedRecord
-record-by-place strip at =
-    ap (λ (r : RecordRead). cond (ltb at (length strip)) r (refusedRecord done))
+record-by-place v strip at g =
+    rw g
+    (ap (λ (r : Read). cond (ltb at (length strip)) r (refusedRecord done))
     (nested refusedRecord (judgedRecord (figuresOf (fieldsAt recordFields strip at))) (leb (at + 2) (length strip)) true
-    (eqb (numberAt strip at 2) recordLength) (leb (at + size recordFields) (length strip)))
+    (eqb (numberAt strip at 2) recordLength) (leb (at + size recordFields) (length strip))))
+
+-- The length of figures is no gap's.
+pub no-gap : (v : Version) (n : ℕ) → n ≡ recordLength → isGap v n ≡ false
+no-gap v n e = rw e (never (v .gaps))
+  where
+    never : (b : Bool) → b && false ≡ false
+    never true = refl
+    never false = refl
 
 -- A record's place is right: its length, and the record is there whole.
 pub record RecordThere (strip : List ℕ) (at : ℕ) : Type 0 where
@@ -101,7 +109,7 @@ record-there strip at e =
     }
 
 pub record-placed : (strip : List ℕ) (at : ℕ) → RecordThere strip at → recordPlace strip at ≡ done
-unfolding recordPlace size
+unfolding recordPlace
 record-placed strip at t =
     rw (
       le-leb (at + 2) (length strip) (omega (arith, t .whole)),

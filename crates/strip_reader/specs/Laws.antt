@@ -1,0 +1,4 @@
+-- What is true of the definitions beside this file.
+pub mod Steps
+pub mod Pieces
+pub mod Whole
