@@ -18,7 +18,7 @@ pub(crate) fn within(n: usize, buffer: &[u8]) -> usize
 }
 
 // Reads once, behind the bytes that are filled. A read that fails is told.
-fn read_once(from: i32, buffer: &mut [u8], n: usize) -> Filled {
+pub(crate) fn read_once(from: i32, buffer: &mut [u8], n: usize) -> Filled {
     let most = buffer.len();
     if n < most {
         let rest = &mut buffer[n..];

@@ -2,19 +2,19 @@
 
 ghost use mathlib.Core.Path.{_≡_};
 ghost use lib.ListN.{length};
-use crate::input::fill;
 use crate::input::fill_some;
 use crate::input::within;
+use crate::strip::draw_next;
+use crate::strip::rest_of;
 use crate::told;
 use recording_run::levelling::Run;
 use recording_run::levelling::after_write;
 use recording_run::levelling::frame_bytes;
 use recording_run::levelling::hear;
 use recording_run::levelling::heard_run;
-use recording_run::levelling::take_record;
+use recording_run::levelling::take_entry;
 use recording_run::levelling::told_at_end;
-use strip_format::RECORD_BYTES;
-use strip_format::read_record;
+use recording_run::strip::Source;
 
 // The most bytes that a frame has.
 const MOST_BYTES: usize = 7680;
@@ -24,6 +24,12 @@ pub(crate) struct Desk {
     pub strip: i32,
     pub channels: usize,
     pub samples: usize,
+}
+
+// The run, and the strip beside it.
+pub(crate) struct Both {
+    pub run: Run,
+    pub source: Source,
 }
 
 // Writes so many bytes, and answers whether that went well. Where not, it is told.
@@ -36,42 +42,49 @@ pub(crate) fn write(bytes: &[u8], n: usize) -> bool {
     written
 }
 
-// Reads the record of a frame of which so many bytes were heard, levels the frame and writes it.
-fn with_record(desk: Desk, bytes: &mut [u8], n: usize, run: Run) -> Run {
-    let mut record = [0u8; RECORD_BYTES];
-    let filled = fill(desk.strip, &mut record);
-    if filled.failed {
-        heard_run(run, n, true)
-    } else {
-        let m = within(filled.n, &record);
-        let read = read_record(&record[..m], 0);
-        let turn = take_record(run, n, read, bytes, desk.channels, desk.samples);
-        let told = turn.told;
-        told::of_run(told);
-        let next = turn.run;
-        after_write(next, write(bytes, turn.n))
+// Draws the record of a frame of which so many bytes were heard, levels the frame and writes it.
+fn with_record(desk: Desk, block: &mut [u8], bytes: &mut [u8], n: usize, both: Both) -> Both {
+    let source = both.source;
+    let run = both.run;
+    let drawn = draw_next(desk.strip, block, source);
+    let got = drawn.got;
+    let turn = take_entry(run, n, got, bytes, desk.channels, desk.samples);
+    let told = turn.told;
+    told::of_run(told);
+    let next = turn.run;
+    let after = after_write(next, write(bytes, turn.n));
+    let rest = drawn.source;
+    Both {
+        run: after,
+        source: rest,
     }
 }
 
 // Reads the next frame, levels it and writes it; or ends the run.
-fn next_frame(desk: Desk, bytes: &mut [u8], run: Run) -> Run {
+fn next_frame(desk: Desk, block: &mut [u8], bytes: &mut [u8], both: Both) -> Both {
+    let run = both.run;
+    let source = both.source;
     let filled = fill_some(libc::STDIN_FILENO, bytes, run.left);
     let n = hear(bytes, filled.n, desk.channels);
     let heard = heard_run(run, n, filled.failed);
+    let now = Both { run: heard, source };
     if heard.more {
-        with_record(desk, bytes, n, heard)
+        with_record(desk, block, bytes, n, now)
     } else {
-        heard
+        now
     }
 }
 
 // Takes the frames one after the other. A proved loop has to end, so it counts its turns down, from a number that no
 // run uses up.
-fn take_frames(desk: Desk, bytes: &mut [u8], run: Run) -> Run {
-    let mut now = run;
+fn take_frames(desk: Desk, block: &mut [u8], bytes: &mut [u8], both: Both) -> Both {
+    let mut now = both;
+    let mut more = true;
     let mut turns = u64::MAX;
-    while turns > 0 && now.more {
-        now = next_frame(desk, bytes, now);
+    while turns > 0 && more {
+        now = next_frame(desk, block, bytes, now);
+        let run = now.run;
+        more = run.more;
         turns -= 1;
     }
     now
@@ -85,18 +98,19 @@ fn room() -> [u8; MOST_BYTES]
 }
 
 // Takes all frames.
-fn take_all(desk: Desk, run: Run) -> Run {
+fn take_all(desk: Desk, block: &mut [u8], both: Both) -> Both {
     let mut bytes = room();
     let n = frame_bytes(desk.channels, desk.samples);
-    take_frames(desk, &mut bytes[..n], run)
+    take_frames(desk, block, &mut bytes[..n], both)
 }
 
 // Levels all frames. At the end of a run that went well it looks whether the strip goes on.
-pub(crate) fn level(desk: Desk, run: Run, known: bool) {
-    let last = take_all(desk, run);
-    if last.well {
-        let mut rest = [0u8; 1];
-        let filled = fill(desk.strip, &mut rest);
-        told::of_run(told_at_end(last, known, filled.n));
+pub(crate) fn level(desk: Desk, block: &mut [u8], both: Both, known: bool) {
+    let last = take_all(desk, block, both);
+    let run = last.run;
+    let source = last.source;
+    if run.well {
+        let rest = rest_of(desk.strip, block, source);
+        told::of_run(told_at_end(run, known, rest));
     }
 }

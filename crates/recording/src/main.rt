@@ -6,28 +6,41 @@
 
 mod input;
 mod levelling;
+mod strip;
 mod told;
 mod wave;
 
-use input::fill;
-use input::within;
+use levelling::Both;
 use levelling::Desk;
 use levelling::level;
 use levelling::write;
-use recording_run::levelling::begin;
+use recording_run::strip::Source;
 use recording_run::wave::Search;
 use recording_run::wave::Stage;
+use strip::draw_next;
 use strip_format::Head;
-use strip_format::HeadRead;
-use strip_format::read_head;
+use strip_reader::Got;
 use units::replies::DONE;
 use wav_format::head::HEAD_BYTES;
 use wave::find;
 
 // Levels the samples that were found, whose chunk says this size: the head of the levelled file, then the frames.
-fn with_samples(strip: i32, head: Head, search: Search, size: u32) {
+fn with_samples(
+    strip: i32,
+    block: &mut [u8],
+    source: Source,
+    head: Head,
+    search: Search,
+    size: u32,
+) {
     let mut out = [0u8; HEAD_BYTES];
-    let begun = begin(head, search.channels, search.samples, size, &mut out);
+    let begun = recording_run::levelling::begin(
+        head,
+        search.channels,
+        search.samples,
+        size,
+        &mut out,
+    );
     if begun.reply == DONE {
         if write(&out, HEAD_BYTES) {
             let desk = Desk {
@@ -36,7 +49,8 @@ fn with_samples(strip: i32, head: Head, search: Search, size: u32) {
                 samples: search.samples,
             };
             let run = begun.run;
-            level(desk, run, begun.known);
+            let both = Both { run, source };
+            level(desk, block, both, begun.known);
         }
     } else {
         told::samples_differ(head.samples, search.samples);
@@ -44,38 +58,27 @@ fn with_samples(strip: i32, head: Head, search: Search, size: u32) {
 }
 
 // Levels the recording with a strip whose head is accepted. A search that is over has found samples, or is told.
-fn with_head(strip: i32, head: Head) {
+fn with_head(strip: i32, block: &mut [u8], source: Source, head: Head) {
     let search = find();
     let stage = search.stage;
     match stage {
         Stage::Start | Stage::Chunk | Stage::Format(_) | Stage::Skip(_) => {}
-        Stage::Samples(size) => with_samples(strip, head, search, size),
+        Stage::Samples(size) => with_samples(strip, block, source, head, search, size),
         Stage::Over(fault) => told::of_search(fault),
     }
 }
 
-// Reads the head of the strip. A read that fails is told, and counts as a head that is cut.
-fn strip_head(strip: i32) -> HeadRead {
-    let mut head = [0u8; strip_format::HEAD_BYTES];
-    let filled = fill(strip, &mut head);
-    let n = within(filled.n, &head);
-    let read = read_head(&head[..n]);
-    if (read.reply != DONE) & !filled.failed {
-        told::tell_number(
-            b"recording: the strip is refused with ",
-            read.reply as u64,
-            b" at its head\n",
-        );
-    }
-    read
-}
-
-// Levels the recording with a strip.
+// Levels the recording with a strip. The first that comes out of it is its head, or a refusal, or nothing where a read
+// failed, which was told.
 fn with_strip(strip: i32) {
-    let read = strip_head(strip);
-    if read.reply == DONE {
-        let head = read.head;
-        with_head(strip, head);
+    let mut block = io::buffer();
+    let drawn = draw_next(strip, &mut block, recording_run::strip::begin());
+    let got = drawn.got;
+    let source = drawn.source;
+    match got {
+        Got::Head(head) => with_head(strip, &mut block, source, head),
+        Got::Refused(reply) => told::head_refused(reply),
+        Got::More | Got::Record(_) | Got::End => {}
     }
 }
 

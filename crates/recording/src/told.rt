@@ -63,6 +63,15 @@ pub(crate) fn samples_differ(strip: usize, recording: usize) {
     tell_number(b"and the recording ", recording as u64, b"\n");
 }
 
+// A strip whose head is refused.
+pub(crate) fn head_refused(reply: u32) {
+    tell_number(
+        b"recording: the strip is refused with ",
+        reply as u64,
+        b" at its head\n",
+    );
+}
+
 // A record of the strip that is refused.
 fn refused(reply: u32, number: u64) {
     tell_number(

@@ -9,9 +9,8 @@ use Rattle.units.specs.declared.figures.Figures.{Figures}
 use Rattle.chain.specs.Calls.{made}
 use Rattle.chain.specs.declared.Chain.{Chain}
 use Rattle.strip_format.specs.declared.Head.{Head}
-use Rattle.strip_format.specs.declared.Found.{Found}
-use Rattle.strip_format.specs.declared.Found.the-variants.{None, Record}
-use Rattle.strip_format.specs.declared.RecordRead.{RecordRead}
+use Rattle.strip_reader.specs.declared.Got.{Got}
+use Rattle.strip_reader.specs.declared.Got.the-variants as Came
 use Rattle.wav_format.specs.Head.{putHead}
 use Rattle.recording_frame.specs.Levelling.{levelled}
 use Rattle.recording_run.specs.declared.levelling.Told.{Told}
@@ -100,14 +99,13 @@ framed run n figures bytes channels samples =
       bytes = after .bytes;
     }
 
--- with the record that was read for it; without one the strip has ended, or is refused
-unfoldable pub recordedWith : Found → ℕ → Run → ℕ → List ℕ → ℕ → ℕ → Framed
-recordedWith None reply run n bytes channels samples =
-    record { turn = stopped run (cond (eqb reply done) (StripEnds (run .number)) (Refused reply (run .number))); bytes = bytes }
-recordedWith (Record figures) reply run n bytes channels samples = framed run n figures bytes channels samples
-
-unfoldable pub recorded : Run → ℕ → RecordRead → List ℕ → ℕ → ℕ → Framed
-recorded run n read bytes channels samples = recordedWith (read .found) (read .reply) run n bytes channels samples
+-- with what came out of the strip for it: without a record the run ends
+unfoldable pub entered : Got → Run → ℕ → List ℕ → ℕ → ℕ → Framed
+entered Came.More run n bytes channels samples = record { turn = stopped run Nothing; bytes = bytes }
+entered (Came.Head head) run n bytes channels samples = record { turn = stopped run Nothing; bytes = bytes }
+entered (Came.Record figures) run n bytes channels samples = framed run n figures bytes channels samples
+entered Came.End run n bytes channels samples = record { turn = stopped run (StripEnds (run .number)); bytes = bytes }
+entered (Came.Refused reply) run n bytes channels samples = record { turn = stopped run (Refused reply (run .number)); bytes = bytes }
 
 -- ---- it is written, or could not be
 abbrev pub afterWrite : Run → Bool → Run

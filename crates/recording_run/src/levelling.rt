@@ -2,14 +2,13 @@
 
 ghost use mathlib.Core.Path.{_≡_};
 ghost use Prim.Native.Nat.{_≤_};
-ghost use Rattle.recording_run.specs.Levelling.{wholeGroups, isUnknown, extentOf, frameBytes, begun, silenced, heard, minute, stopped, framed, recorded, afterWrite, atEnd};
+ghost use Rattle.recording_run.specs.Levelling.{wholeGroups, isUnknown, extentOf, frameBytes, begun, silenced, heard, minute, stopped, framed, entered, afterWrite, atEnd};
 use crate::input::less;
 use chain::Chain;
 use recording_frame::level_bytes;
 use std::num::wrapping_add_u64;
-use strip_format::Found;
 use strip_format::Head;
-use strip_format::RecordRead;
+use strip_reader::Got;
 use units::figures::Figures;
 use units::replies::DONE;
 use units::replies::SHAPE;
@@ -246,29 +245,26 @@ fn take_figures(
     }
 }
 
-// Levels a frame of which so many bytes were heard, with the record that was read for it. The run ends where the strip ends
-// or the record is refused, and where the chain refuses the frame; the bytes stay as they were then.
-pub fn take_record(
+// Levels a frame of which so many bytes were heard, with what came out of the strip for it. The run ends where that is no
+// record, and where the chain refuses the frame; the bytes stay as they were then. Nothing comes out where a read failed,
+// which was told, and after the first time no head does.
+pub fn take_entry(
     run: Run,
     n: usize,
-    read: RecordRead,
+    got: Got,
     bytes: &mut [u8],
     channels: usize,
     samples: usize,
 ) -> Turn
-    ensures { λ r. ⌜ r ≡ recorded run n read (now (bytes .entry)) channels samples .turn ⌝ }
-    ensures { λ _. ⌜ now (bytes .exit) ≡ recorded run n read (now (bytes .entry)) channels samples .bytes ⌝ }
+    ensures { λ r. ⌜ r ≡ entered got run n (now (bytes .entry)) channels samples .turn ⌝ }
+    ensures { λ _. ⌜ now (bytes .exit) ≡ entered got run n (now (bytes .entry)) channels samples .bytes ⌝ }
 {
-    let found = read.found;
-    match found {
-        Found::None => {
-            if read.reply == DONE {
-                stop(run, Told::StripEnds(run.number))
-            } else {
-                stop(run, Told::Refused(read.reply, run.number))
-            }
-        }
-        Found::Record(figures) => take_figures(run, n, figures, bytes, channels, samples),
+    match got {
+        Got::More => stop(run, Told::Nothing),
+        Got::Head(_) => stop(run, Told::Nothing),
+        Got::Record(figures) => take_figures(run, n, figures, bytes, channels, samples),
+        Got::End => stop(run, Told::StripEnds(run.number)),
+        Got::Refused(reply) => stop(run, Told::Refused(reply, run.number)),
     }
 }
 

@@ -4,4 +4,5 @@
 
 pub mod input;
 pub mod levelling;
+pub mod strip;
 pub mod wave;
