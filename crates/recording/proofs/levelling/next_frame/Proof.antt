@@ -1,43 +1,33 @@
-use borrow.Author.Needs.{needs}
+-- `recording::levelling::next_frame` is safe: each call leaves the frame as long as it was. Assumes nothing.
 use native.Mathlib.Omega.{arith}
+use borrow.Author.Needs.{needs}
 use Rattle.recording.proofs.levelling.next_frame.Statement.{statement}
 use Rattle.recording.proofs.levelling.next_frame.Tie as tie
-use Rattle.recording.proofs.levelling.next_frame.Reads as reads
-use Rattle.recording.proofs.levelling.next_frame.Lts as lts
-use Rattle.recording.proofs.input.fill_some.Reads as fill-some-reads
-use Rattle.recording.proofs.levelling.with_record.Reads as with-record-reads
-use Rattle.recording_run.proofs.levelling.hear.Reads as hear-reads
-use Rattle.recording_run.proofs.levelling.heard_run.Reads as heard-run-reads
 
--- src/levelling.rt:58:9
 fill-some-requires : tie.Need-fill-some-requires
 fill-some-requires c κs = search needs
 
--- src/levelling.rt:59:9
 hear-requires : tie.Need-hear-requires
 hear-requires c κs = search needs
 
--- src/levelling.rt:60:9
 heard-run-requires : tie.Need-heard-run-requires
 heard-run-requires c κs = search needs
 
--- src/levelling.rt:62:9
 with-record-requires : tie.Need-with-record-requires
 with-record-requires c κs = search needs
 
--- src/levelling.rt:57:1
 same-length : tie.Need-same-length
 same-length c = search needs
 
--- src/levelling.rt:57:1
+same-length-2 : tie.Need-same-length-2
+same-length-2 c = omega (arith, c .before .bytes3 .given, c .before .before .before .before .before .before .before .before .before .before .bytes2 .given, c .before .before .before .before .before .before .before .before .before .before .before .before .before .before .bytes .given)
+
 returns : tie.Need-returns
 returns c = search needs
 
--- src/levelling.rt:57:1
-same-length-2 : tie.Need-same-length-2
-same-length-2 c = search needs
+same-length-3 : tie.Need-same-length-3
+same-length-3 c = search needs
 
--- src/levelling.rt:57:1
 returns-2 : tie.Need-returns-2
 returns-2 c = search needs
 
@@ -50,6 +40,7 @@ next-frame-spec =
     heard-run-requires
     with-record-requires
     same-length
-    returns
     same-length-2
+    returns
+    same-length-3
     returns-2)

@@ -19,7 +19,14 @@ next-requires : tie.Need-next-requires
 next-requires c κs = search needs
 
 add-t11 : tie.Need-add-t11
-add-t11 c = let a = c .before .before .before .before .before .before .before .args in let n = c .before .before .next in let m = c .before .before .before .before .before .filled-of in let filled = take (m .result) (a .block .now) in omega (arith, used-within (a .source .reader) (drop (a .source .at) filled) (n .result) (n .ensures), length-drop (a .source .at) filled, m .ensures .0 .0, m .ensures .0 .1, c .before .before .before .before .before .before .before .good .0 .1 .1 .1 .0)
+add-t11 c =
+    let start = c .before .before .before .before .before .before .before in
+    let at = start .args .source .at in
+    let n = c .before .before .next in
+    let m = c .before .before .before .before .before .filled-of in
+    let filled = take (m .result) (start .args .block .now) in
+    omega
+    (arith, used-within (start .args .source .reader) (drop at filled) (n .result) (n .ensures), length-drop at filled, m .ensures .0, start .good .0 .1 .1 .1 .0)
 
 is-more-requires : tie.Need-is-more-requires
 is-more-requires c κs = search needs
