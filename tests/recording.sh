@@ -14,8 +14,14 @@ wav() { tests/wav-maker "$@"; }
 strip() { # RECORDS SAMPLES
     { echo "head threshold 4 samples $2" && yes "0.9 -30 -20 -60 -40" | head -n "$1"; } | tools/strip-maker to-strip
 }
+# A strip that changes nothing: it begins without gain, and no frame of it is speech. A sound that stays below the limiter
+# comes out as it went in, byte for byte; and the head of a file that tests/wav-maker makes is the one that is written.
+flat() { # RECORDS SAMPLES
+    { echo "head threshold 4 samples $2 initial-gain 0" && yes "0 -60 -60 -60 -60" | head -n "$1"; } | tools/strip-maker to-strip
+}
 run() { tests/run-program recording "$@"; }
-for samples in 40 160 441 480; do strip 10 "$samples" >"$room/$samples.strip" 2>/dev/null; done
+for samples in 40 160 480; do strip 10 "$samples" >"$room/$samples.strip"; done
+for samples in 80 480; do flat 10 "$samples" >"$room/$samples.flat"; done
 
 # The stored WAV file is of the maker, has a LIST chunk of odd size before the samples and a short last frame; rt has
 # run the program on it.
@@ -50,10 +56,14 @@ refuses "a folder in place of the recording" "standard input: Is a directory" "$
 refuses "a file that ends after its start" "the WAV file ends before its samples" "$room/480.strip" < <(head -c 12 "$good")
 refuses "a file that ends in a chunk's head" "the WAV file ends before its samples" "$room/480.strip" < <(head -c 40 "$good")
 refuses "a file that ends in its format" "the format of the WAV file has fewer than 16 bytes" "$room/480.strip" < <(head -c 30 "$good")
-refuses "a format of 14 bytes" "the format of the WAV file has fewer than 16 bytes" "$room/480.strip" < <(wav --format-bytes 14)
+for size in 0 14 15; do
+    refuses "a format of $size bytes" "the format of the WAV file has fewer than 16 bytes" "$room/480.strip" < <(wav --format-bytes $size)
+done
 refuses "samples before the format" "the WAV file does not say its format before its samples" "$room/480.strip" \
     < <(head -c 12 "$good"; printf 'data\x02\0\0\0\0\0')
-refuses "samples of 24 bits" "the samples are not 16-bit PCM" "$room/480.strip" < <(wav --bits 24)
+refuses "samples of 24 bits" "the samples are not 16-bit PCM" "$room/480.strip" < <(wav --bits 24 --group 3)
+refuses "samples of 24 bits in two bytes" "the samples are not 16-bit PCM" "$room/480.strip" < <(wav --bits 24)
+refuses "samples of 8 bits" "the samples are not 16-bit PCM" "$room/480.strip" < <(wav --bits 8 --group 1)
 refuses "samples that are floats" "the samples are not 16-bit PCM" "$room/480.strip" < <(wav --tag 3)
 refuses "an extended format of floats" "the samples are not 16-bit PCM" "$room/480.strip" < <(wav --extended --tag 3)
 refuses "a group of samples that is too long" "the samples of the channels do not lie side by side, in two bytes each" \
@@ -84,60 +94,86 @@ stops "a record of a wrong length" "the strip is refused with 6 at record 3" 192
 stops "a record whose figure is no number" "the strip is refused with 2 at record 1" 0 \
     <(head -c 28 "$room/480.strip"; printf '\x7f\xc0\0\0'; tail -c +33 "$room/480.strip") <"$good"
 
-# However the file says what it is: the samples come out the same.
-body() { tail -c +45 "$1"; }
-due=$room/due.wav
-run "$room/480.strip" <"$good" >"$due" 2>"$room/err"
-same "recording: a whole number of frames: nothing is told" "" "$(cat "$room/err")"
-alike() { # NAME: the file is standard input
-    run "$room/480.strip" >"$room/got" 2>"$room/err"
+# However the file says what it is: the samples come out the same. With the flat strip they are those that went in.
+levels() { # NAME DUE STRIP: the file is standard input, nothing is told, and DUE is what is written
+    run "$3" >"$room/got" 2>"$room/err"
     same "recording: $1: nothing is told" "" "$(cat "$room/err")"
-    same_file "recording: $1" "$due" "$room/got"
+    same_file "recording: $1" "$2" "$room/got"
 }
+alike() { levels "$1" "$good" "$room/480.flat"; }
+alike "a whole number of frames" <"$good"
 alike "an extended format" < <(wav --samples 4800 --extended)
 alike "an extended format, and a chunk of odd size before the samples" < <(wav --samples 4800 --extended --odd-list)
+for size in 17 18 19; do alike "a format of $size bytes" < <(wav --samples 4800 --format-bytes $size); done
+for size in 41 4135 4136 4137; do alike "an extended format of $size bytes" < <(wav --samples 4800 --extended --format-bytes $size); done
 alike "chunks after the samples" < <(wav --samples 4800 --late)
 alike "bytes after the samples" < <(cat "$good"; echo more)
 alike "a format that says it twice" < <(head -c 36 "$good"; tail -c +13 "$good" | head -c 24; tail -c +37 "$good")
-alike "a file that comes in pieces" < <(for at in 0 1 3 9 5003; do tail -c +$((at + 1)) "$good" | head -c $((at == 0 ? 1 : at == 1 ? 2 : at == 3 ? 6 : at == 9 ? 4994 : 99999)); sleep 0.02; done)
-run "$room/480.strip" < <(wav --samples 4800 --size 9601) >"$room/got" 2>/dev/null
-same_file "recording: a size that is no whole number of samples: the whole ones" "$due" "$room/got"
-for size in 4294967295 2147483647 2147418112; do
-    run "$room/480.strip" < <(wav --samples 4800 --size $size) >"$room/got" 2>"$room/err"
-    same "recording: a size of $size, which a pipe writes: nothing is told" "" "$(cat "$room/err")"
-    same "recording: a size of $size, which a pipe writes: the samples are the same, and the size is kept" "$(body "$due" | sha256sum) $size" \
-        "$(body "$room/got" | sha256sum) $(tail -c +41 "$room/got" | head -c 4 | od -An -tu4 | tr -d ' ')"
+pieces() { # FILE PLACES..: the file, cut at these places, one piece after the other
+    local file=$1 from=0 to
+    shift
+    for to in "$@" 999999; do
+        tail -c +$((from + 1)) "$file" | head -c $((to - from))
+        from=$to
+        sleep 0.02
+    done
+}
+alike "a file that comes in pieces" < <(pieces "$good" 1 3 9 5003)
+levels "a strip that comes in pieces" "$good" <(pieces "$room/480.flat" 1 2 5 26 27 70) <"$good"
+levels "a size that is no whole number of samples: the whole ones" "$good" "$room/480.flat" < <(wav --samples 4800 --size 9601)
+for channels in 1 2 3 8; do
+    wav --rate 8000 --channels $channels --samples 793 --seed $channels --loud 20000 >"$room/in.wav"
+    levels "$channels channels, and a short last frame" "$room/in.wav" "$room/80.flat" <"$room/in.wav"
 done
 
-# A short last frame is as a whole one that ends in silence.
-run "$room/480.strip" < <(wav --samples 4600) >"$room/short" 2>"$room/err"
-same "recording: a short last frame: nothing is told" "" "$(cat "$room/err")"
-{ wav --samples 4600 --size 9600; head -c 400 /dev/zero; } | run "$room/480.strip" >"$room/got" 2>/dev/null
-same "recording: a short last frame: as one that ends in silence" "$(body "$room/got" | head -c 9200 | sha256sum)" "$(body "$room/short" | sha256sum)"
+# The size that the file says of its samples, from which on it counts as unknown, and the size of all in bytes 5 to 8 of the
+# head, which does not wrap.
+said() { od -An -tu4 -j "$1" -N 4 "$2" | tr -d ' '; }
+sized() { # SIZE SIZE-THAT-IS-WRITTEN SIZE-OF-ALL TOLD
+    run "$room/480.flat" < <(wav --samples 4800 --size "$1") >"$room/got" 2>"$room/err"
+    same "recording: samples of $1 bytes: what is told" "$4" "$(cat "$room/err")"
+    same "recording: samples of $1 bytes: the sizes in the head" "$2 $3" "$(said 40 "$room/got") $(said 4 "$room/got")"
+    same_file "recording: samples of $1 bytes: those that came" <(tail -c +45 "$good") <(tail -c +45 "$room/got")
+}
+missing() { echo "recording: the WAV file is cut: $1 bytes of its samples are missing"; }
+sized 9602 9602 9638 "$(missing 2)"
+sized 9603 9602 9638 "$(missing 2)"
+sized 2147418110 2147418110 2147418146 "$(missing 2147408510)"
+sized 2147418111 2147418110 2147418146 "$(missing 2147408510)"
+sized 2147418112 2147418112 2147418148 ""
+sized 2147483647 2147483647 2147483683 ""
+for size in 4294967258 4294967259 4294967260 4294967261 4294967294 4294967295; do
+    sized $size $size $((size < 4294967259 ? size + 36 : 4294967295)) ""
+done
 
-# Eight channels with the same sound are levelled as one is.
-wav --samples 4800 --rate 16000 >"$room/one"
-python3 - "$room/one" >"$room/eight" <<'EIGHT'
-import struct, sys
-sound = open(sys.argv[1], "rb").read()[44:]
-body = b"".join(sound[i : i + 2] * 8 for i in range(0, len(sound), 2))
-sys.stdout.buffer.write(b"RIFF" + struct.pack("<I", 36 + len(body)) + b"WAVEfmt " + struct.pack("<IHHIIHH", 16, 1, 8, 16000, 256000, 16, 16))
-sys.stdout.buffer.write(b"data" + struct.pack("<I", len(body)) + body)
-EIGHT
-strip 30 160 >"$room/thirty.strip"
-run "$room/thirty.strip" <"$room/one" >"$room/one.out" 2>/dev/null
-run "$room/thirty.strip" <"$room/eight" >"$room/eight.out" 2>/dev/null
-same "recording: eight channels with one sound are levelled as one channel is" "yes" "$(python3 - "$room/one.out" "$room/eight.out" <<'EIGHT'
-import sys
-one, eight = (open(name, "rb").read()[44:] for name in sys.argv[1:])
-print("yes" if len(one) == 9600 and any(one) and eight == b"".join(one[i : i + 2] * 8 for i in range(0, len(one), 2)) else "no")
-EIGHT
-)"
+# A group of samples that is not whole is not written, and is not heard: the half of one at the end of these files is so
+# loud that the limiter would take the samples before it back.
+loud() { wav --rate 8000 --channels 2 --samples 794 --seed 5 --loud 20000 --last 32767 "$@"; }
+loud --short 4 | tail -c +45 >"$room/before"
+half() { # NAME SIZE-THAT-IS-WRITTEN TOLD: the file is standard input
+    run "$room/80.flat" >"$room/got" 2>"$room/err"
+    same "recording: $1: what is told" "$3" "$(cat "$room/err")"
+    same "recording: $1: the size in the head" "$2" "$(said 40 "$room/got")"
+    same_file "recording: $1: the whole groups of samples, as they were" "$room/before" <(tail -c +45 "$room/got")
+}
+for bytes in 1 2 3; do
+    half "a stereo file without its last $bytes bytes" 3176 "$(missing 4)" < <(loud --short $bytes)
+    half "a stereo file of unknown size without its last $bytes bytes" 4294967295 "" < <(loud --short $bytes --size 4294967295)
+    half "a stereo file whose size is $bytes bytes short" 3172 "" < <(loud --size $((3176 - bytes)))
+done
+
+# Sound that is levelled, of 1, 2 and 8 channels, with a short last frame: as the ruled Rust levels it, whose digests are
+# stored.
+tests/some-recordings "$room/some"
+while read -r digest name; do
+    run "$room/some/$name.strip" <"$room/some/$name.wav" >"$room/got" 2>"$room/err"
+    same "recording: $name: nothing is told" "" "$(cat "$room/err")"
+    same "recording: $name: the digest of what the ruled Rust writes" "$digest" "$(sha256sum <"$room/got" | head -c 64)"
+done <tests/some-recordings.sha256
 
 # Silence in gives silence out.
-run "$room/480.strip" < <(wav --samples 4800 --loud 0) >"$room/got" 2>"$room/err"
-same "recording: silence in gives silence out" "9600 bytes, 0 of them not 0" \
-    "$(body "$room/got" | wc -c) bytes, $(body "$room/got" | tr -d '\0' | wc -c) of them not 0"
+wav --samples 4800 --loud 0 >"$room/silent.wav"
+levels "silence in gives silence out" "$room/silent.wav" "$room/480.strip" <"$room/silent.wav"
 
 # Two minutes of sound, 12,000 frames of 40 samples: it tells each minute, and the memory that it has used is the same
 # at the end as after a second.
@@ -176,11 +212,11 @@ fi
 
 # As a volunteer runs it.
 status() { "$@" >/dev/null 2>&1; echo $?; }
-./level recording "$room/480.strip" <"$good" >"$room/got" 2>"$room/err"
+./level recording "$room/480.flat" <"$good" >"$room/got" 2>"$room/err"
 same "recording: ./level ends with status 0" 0 $?
-same_file "recording: ./level recording" "$due" "$room/got"
-(cd "$room" && "$OLDPWD/level" recording 480.strip <good.wav >got 2>/dev/null)
-same_file "recording: ./level recording from another folder" "$due" "$room/got"
+same_file "recording: ./level recording" "$good" "$room/got"
+(cd "$room" && "$OLDPWD/level" recording 480.flat <good.wav >got 2>/dev/null)
+same_file "recording: ./level recording from another folder" "$good" "$room/got"
 ./level recording "$room/long.strip" <"$room/long.wav" >/dev/null 2>"$room/err"
 same "recording: ./level ends with status 0 where only minutes are told" "0 recording: 1 min recording: 2 min" "$? $(paste -sd' ' "$room/err")"
 same "recording: ./level ends with status 1 where the recording is cut" 1 "$(status ./level recording "$room/480.strip" <"$room/cut.wav")"

@@ -8,22 +8,13 @@ trap 'rm -rf "$room"' EXIT
 target/oracle/oracle recording crates/recording/data/service.strip <crates/recording/stdin >"$room/due"
 same_file "the stored levelled recording is the oracle's" "$room/due" crates/recording/stdout
 
-# A strip whose figures are random: readings, coughs and pauses.
-strip() { # SEED SAMPLES RECORDS
-    python3 - "$@" <<'END' | tools/strip-maker to-strip
-import random, sys
-seed, samples, records = map(int, sys.argv[1:])
-source = random.Random(seed)
-print("head threshold", source.choice([1, 4, 12]), "samples", samples, "initial-gain", source.choice([0, 15, 40]))
-speech = False
-for _ in range(records):
-    if source.random() < 0.1:
-        speech = not speech
-    rms = source.uniform(-60, -10)
-    print(source.choice([0.96, 1]) if speech else source.choice([0, 0.5]), f"{rms:.3f} {rms + source.uniform(0, 20):.3f}",
-          f"{source.uniform(-90, -40):.3f} {source.choice([-90, -30, -3, 0]):.3f}")
-END
-}
+# The recordings whose digests tests/recording.sh has.
+tests/some-recordings "$room/some"
+for file in "$room"/some/*.wav; do
+    name=$(basename "$file" .wav)
+    echo "$(target/oracle/oracle recording "$room/some/$name.strip" <"$file" | sha256sum | head -c 64) $name"
+done >"$room/digests"
+same_file "the stored digests of levelled recordings are the oracle's" tests/some-recordings.sha256 "$room/digests"
 
 # Noise of a second and a half, quiet and loud.
 seed=0 frames=0
@@ -37,7 +28,7 @@ for rate in 8000 48000; do
             records=$(((samples + part - 1) / part))
             frames=$((frames + records))
             tests/wav-maker --rate $rate --channels $channels --samples $samples --loud $loud --seed $seed >"$room/in.wav"
-            strip $seed $part $records >"$room/strip"
+            tests/random-strip $seed $part $records >"$room/strip"
             target/oracle/oracle recording "$room/strip" <"$room/in.wav" >"$room/due" 2>>"$room/apart"
             tests/run-program recording "$room/strip" <"$room/in.wav" >"$room/got" 2>>"$room/apart"
             same "seed $seed: so many bytes" $((44 + 2 * channels * samples)) "$(wc -c <"$room/due")" | grep '^not ok' >>"$room/apart"

@@ -6,109 +6,79 @@
 
 mod input;
 mod levelling;
+mod strip;
 mod told;
 mod wave;
 
-use chain::Chain;
-use input::fill;
-use input::within;
+use levelling::Both;
 use levelling::Desk;
-use levelling::Run;
-use levelling::finish;
-use levelling::take_all;
-use levelling::whole_groups;
+use levelling::level;
 use levelling::write;
+use recording_run::strip::Source;
+use recording_run::wave::Search;
+use recording_run::wave::Stage;
+use strip::draw_next;
 use strip_format::Head;
-use strip_format::HeadRead;
-use strip_format::read_head;
+use strip_reader::Got;
 use units::replies::DONE;
-use wave::Sound;
+use wav_format::head::HEAD_BYTES;
 use wave::find;
 
-// A size from here on is what a program writes that does not know it: the samples end where the input ends.
-const UNKNOWN: u32 = 0x7fff_0000;
-
-// Writes the head of the levelled file, and answers whether that went well.
-fn begin(channels: usize, samples: usize, size: u32) -> bool {
-    let mut head = [0u8; wav_format::head::HEAD_BYTES];
-    wav_format::head::write_head(channels, samples, size, &mut head);
-    write(&head, wav_format::head::HEAD_BYTES)
-}
-
-// Levels the samples of the sound, of which so many bytes follow.
-fn level(strip: i32, head: Head, sound: Sound, left: usize, known: bool) {
-    let settings = head.settings;
-    // A head that was accepted is one that a chain is made of.
-    let made = Chain::new(settings, head.threshold, head.samples);
-    let chain = made.chain;
-    let desk = Desk {
-        strip,
-        channels: sound.channels,
-        samples: sound.samples,
-    };
-    let first = Run {
-        chain,
-        number: 1,
-        left,
-        more: true,
-        well: true,
-    };
-    let last = take_all(desk, first);
-    if last.well {
-        finish(strip, last.number, last.left, known);
-    }
-}
-
-// Levels the sound whose samples begin here.
-fn with_sound(strip: i32, head: Head, sound: Sound) {
-    let known = sound.size < UNKNOWN;
-    let whole = whole_groups(sound.size as usize, sound.channels);
-    let size = floats::pick_u32(known, whole as u32, sound.size);
-    let left = floats::pick_usize(known, whole, usize::MAX);
-    if begin(sound.channels, sound.samples, size) {
-        level(strip, head, sound, left, known);
-    }
-}
-
-// Levels the recording with a strip whose head is accepted.
-fn with_head(strip: i32, head: Head) {
-    let sound = find();
-    if sound.found {
-        if sound.samples == head.samples {
-            with_sound(strip, head, sound);
-        } else {
-            told::tell_number(
-                b"recording: the strip has ",
-                head.samples as u64,
-                b" samples a frame, ",
-            );
-            told::tell_number(b"and the recording ", sound.samples as u64, b"\n");
+// Levels the samples that were found, whose chunk says this size: the head of the levelled file, then the frames.
+fn with_samples(
+    strip: i32,
+    block: &mut [u8],
+    source: Source,
+    head: Head,
+    search: Search,
+    size: u32,
+) {
+    let mut out = [0u8; HEAD_BYTES];
+    let begun = recording_run::levelling::begin(
+        head,
+        search.channels,
+        search.samples,
+        size,
+        &mut out,
+    );
+    if begun.reply == DONE {
+        if write(&out, HEAD_BYTES) {
+            let desk = Desk {
+                strip,
+                channels: search.channels,
+                samples: search.samples,
+            };
+            let run = begun.run;
+            let both = Both { run, source };
+            level(desk, block, both, begun.known);
         }
+    } else {
+        told::samples_differ(head.samples, search.samples);
     }
 }
 
-// Reads the head of the strip. A read that fails is told, and counts as a head that is cut.
-fn strip_head(strip: i32) -> HeadRead {
-    let mut head = [0u8; strip_format::HEAD_BYTES];
-    let filled = fill(strip, &mut head);
-    let n = within(filled.n, &head);
-    let read = read_head(&head[..n]);
-    if (read.reply != DONE) & !filled.failed {
-        told::tell_number(
-            b"recording: the strip is refused with ",
-            read.reply as u64,
-            b" at its head\n",
-        );
+// Levels the recording with a strip whose head is accepted. A search that is over has found samples, or is told.
+fn with_head(strip: i32, block: &mut [u8], source: Source, head: Head) {
+    let search = find();
+    let stage = search.stage;
+    match stage {
+        Stage::Start | Stage::Chunk | Stage::Format(_) | Stage::Skip(_) => {}
+        Stage::Samples(size) => with_samples(strip, block, source, head, search, size),
+        Stage::Over(fault) => told::of_search(fault),
     }
-    read
 }
 
-// Levels the recording with a strip.
+// Levels the recording with a strip. The first that comes out of it is its head, or a refusal, or nothing where a read
+// failed, which was told.
 fn with_strip(strip: i32) {
-    let read = strip_head(strip);
-    if read.reply == DONE {
-        let head = read.head;
-        with_head(strip, head);
+    let mut block = io::buffer();
+    let drawn = draw_next(strip, &mut block, recording_run::strip::begin());
+    let got = drawn.got;
+    let source = drawn.source;
+    match got {
+        Got::Head(head) => with_head(strip, &mut block, source, head),
+        Got::Refused(reply) => told::head_refused(reply),
+        Got::More | Got::Record(_) | Got::End => {}
     }
 }
 

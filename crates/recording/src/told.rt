@@ -1,9 +1,7 @@
 // What is told on standard error: one line for each.
 
-use units::replies::CUT;
-use units::replies::LENGTH;
-use units::replies::VERSION;
-use wav_format::head::read_chunk;
+use recording_run::levelling::Told;
+use recording_run::wave::Fault;
 
 // Tells a text.
 pub(crate) fn tell(text: &[u8]) {
@@ -26,47 +24,84 @@ pub(crate) fn unread(from: i32) {
     }
 }
 
-// A format whose channels or whose rate are not taken. It begins with two numbers of four bytes: the first has the
-// channels in its upper half, and the second is the rate.
-fn shape(format: &[u8]) {
-    let first = read_chunk(format);
-    let n = first.name / 65536;
-    if (1 <= n) & (n <= 8) {
-        tell_number(
-            b"recording: 10 ms at ",
-            first.size as u64,
-            b" Hz are no whole frame: 8000, 12000, 16000, 24000, 32000 or 48000 Hz can be levelled\n",
-        );
-    } else {
-        tell_number(
+// Why there are no samples to level. A read that failed was told before.
+pub(crate) fn of_search(fault: Fault) {
+    match fault {
+        Fault::Unread => {}
+        Fault::NoWave => tell(b"recording: not a WAV file\n"),
+        Fault::Ends => tell(b"recording: the WAV file ends before its samples\n"),
+        Fault::NoFormat => {
+            tell(b"recording: the WAV file does not say its format before its samples\n")
+        }
+        Fault::FormatCut => {
+            tell(b"recording: the format of the WAV file has fewer than 16 bytes\n")
+        }
+        Fault::NotPlain => tell(b"recording: the samples are not 16-bit PCM\n"),
+        Fault::NotTogether => tell(
+            b"recording: the samples of the channels do not lie side by side, in two bytes each\n",
+        ),
+        Fault::Channels(n) => tell_number(
             b"recording: the sound has ",
             n as u64,
             b" channels: 1 to 8 can be levelled\n",
-        );
+        ),
+        Fault::Rate(rate) => tell_number(
+            b"recording: 10 ms at ",
+            rate as u64,
+            b" Hz are no whole frame: 8000, 12000, 16000, 24000, 32000 or 48000 Hz can be levelled\n",
+        ),
     }
 }
 
-// A format chunk that is refused.
-pub(crate) fn format(reply: u32, bytes: &[u8]) {
-    if reply == CUT {
-        tell(b"recording: the format of the WAV file has fewer than 16 bytes\n");
-    } else if reply == VERSION {
-        tell(b"recording: the samples are not 16-bit PCM\n");
-    } else if reply == LENGTH {
-        tell(
-            b"recording: the samples of the channels do not lie side by side, in two bytes each\n",
-        );
-    } else {
-        shape(bytes);
-    }
+// A strip that is for another number of samples than the recording has.
+pub(crate) fn samples_differ(strip: usize, recording: usize) {
+    tell_number(
+        b"recording: the strip has ",
+        strip as u64,
+        b" samples a frame, ",
+    );
+    tell_number(b"and the recording ", recording as u64, b"\n");
+}
+
+// A strip whose head is refused.
+pub(crate) fn head_refused(reply: u32) {
+    tell_number(
+        b"recording: the strip is refused with ",
+        reply as u64,
+        b" at its head\n",
+    );
 }
 
 // A record of the strip that is refused.
-pub(crate) fn record(reply: u32, number: u64) {
+fn refused(reply: u32, number: u64) {
     tell_number(
         b"recording: the strip is refused with ",
         reply as u64,
         b" at record ",
     );
     tell_number(b"", number, b"\n");
+}
+
+// What is told of a run.
+pub(crate) fn of_run(told: Told) {
+    match told {
+        Told::Nothing => {}
+        Told::Minute(n) => tell_number(b"recording: ", n, b" min\n"),
+        Told::StripEnds(number) => tell_number(
+            b"recording: the strip ends before the recording, which goes on with frame ",
+            number,
+            b"\n",
+        ),
+        Told::Refused(reply, number) => refused(reply, number),
+        Told::Missing(n) => tell_number(
+            b"recording: the WAV file is cut: ",
+            n as u64,
+            b" bytes of its samples are missing\n",
+        ),
+        Told::StripGoesOn(number) => tell_number(
+            b"recording: the recording ends before the strip, which goes on with record ",
+            number,
+            b"\n",
+        ),
+    }
 }

@@ -1,31 +1,40 @@
 -- What becomes of the bytes of a frame. Definitions only.
-use mathlib.Core.Bool.{cond}
+use mathlib.Core.Bool.{Bool, cond, _&&_}
 use mathlib.Core.List.{List}
-use Prim.Native.Nat.{ℕ}
+use Prim.Native.Nat.{ℕ, _*_}
 use lib.Dec.{eqb}
-use lib.Ieee.{Float}
-use Rattle.units.specs.Replies.{done}
+use lib.ListN.{length}
+use Rattle.units.specs.Replies.{done, badShape}
 use Rattle.units.specs.declared.figures.Figures.{Figures}
+use Rattle.frames.specs.Shape.{isShape}
 use Rattle.chain.specs.Calls.{called}
 use Rattle.chain.specs.declared.Chain.{Chain}
-use Rattle.wav_format.specs.Samples.{frameRead, frameWritten}
+use Rattle.wav_format.specs.Samples.{heardFrom, frameWritten}
 use Rattle.recording_frame.specs.declared.Levelled.{Levelled}
 
--- what is answered, the bytes, and the lent frame
+-- what is answered, and the bytes
 pub record Outcome : Type 0 where
   pub next : Levelled
   pub bytes : List ℕ
-  pub frame : List Float
 
--- read, levelled, written: the first that refuses says with what, and then the chain and the bytes stay as they were
-unfoldable pub levelled : Chain → Figures → List ℕ → List Float → ℕ → ℕ → Outcome
-unfolding frameRead called frameWritten
-levelled chain figures bytes frame channels samples =
-    let read = frameRead bytes frame channels samples in
-    let step = called chain figures (read .frame) channels samples in
+-- two bytes for each sample of a frame of this shape
+unfoldable pub isFrame : List ℕ → ℕ → ℕ → Bool
+unfolding isShape
+isFrame bytes channels samples =
+    isShape channels samples (channels * samples) && eqb (length bytes) (2 * (channels * samples))
+
+-- a call that is refused: the chain and the bytes stay as they were
+abbrev pub kept : Chain → List ℕ → ℕ → Outcome
+kept chain bytes reply = record { next = record { reply = reply; chain = chain }; bytes = bytes }
+
+-- read, levelled, written: the first that refuses says with what
+unfoldable pub levelled : Chain → Figures → List ℕ → ℕ → ℕ → Outcome
+unfolding isFrame heardFrom called frameWritten
+levelled chain figures bytes channels samples =
+    let step = called chain figures (heardFrom bytes channels samples 0 (channels * samples)) channels samples in
     let written = frameWritten (step .frame) channels samples bytes in
-    cond (eqb (read .reply) done)
+    cond (isFrame bytes channels samples)
     (cond (eqb (step .told .reply) done)
-    (record { next = record { reply = written .reply; chain = step .told .chain }; bytes = written .out; frame = step .frame })
-    (record { next = record { reply = step .told .reply; chain = chain }; bytes = bytes; frame = step .frame }))
-    (record { next = record { reply = read .reply; chain = chain }; bytes = bytes; frame = read .frame })
+    (record { next = record { reply = written .reply; chain = step .told .chain }; bytes = written .out })
+    (kept chain bytes (step .told .reply)))
+    (kept chain bytes badShape)

@@ -1,12 +1,18 @@
 // A frame of a recording through the chain: bytes in, the levelled bytes out.
 
 ghost use mathlib.Core.Path.{_≡_};
+ghost use Prim.Native.Nat.{_≤_};
+ghost use lib.ListN.{length};
 ghost use Rattle.recording_frame.specs.Levelling.{levelled};
+ghost use Rattle.recording_frame.specs.Steps.{roomFor};
 use chain::Chain;
 use units::figures::Figures;
 use units::replies::DONE;
 use wav_format::samples::read_frame;
 use wav_format::samples::write_frame;
+
+// The most samples that a frame has.
+const MOST_SAMPLES: usize = 3840;
 
 // A reply's number, and the chain that goes on: the one that came in, where the frame is refused.
 pub struct Levelled {
@@ -14,10 +20,31 @@ pub struct Levelled {
     pub chain: Chain,
 }
 
-// Levels the bytes of a frame where they stand, with the figures that were metered of it. The lent frame is for the
-// samples, and holds the levelled ones afterwards. Refused with 1, where the frame has not this shape or the bytes are
-// not two for each of its samples, and with what the chain refuses; the bytes and the chain stay as they were then.
-pub fn level_bytes(
+// Room for the samples of any frame.
+fn quiet() -> [f32; MOST_SAMPLES]
+    ensures { λ r. ⌜ 3840 ≡ length r ⌝ }
+{
+    [0.0; MOST_SAMPLES]
+}
+
+// How much of the room a frame of this shape takes: none where it has more channels or samples than any frame.
+fn room_for(channels: usize, samples: usize) -> usize
+    ensures { λ r. ⌜ r ≤ 3840 ⌝ }
+    ensures { λ r. ⌜ r ≡ roomFor channels samples ⌝ }
+{
+    if channels <= 8 {
+        if samples <= 480 {
+            channels * samples
+        } else {
+            0
+        }
+    } else {
+        0
+    }
+}
+
+// Levels the bytes of a frame where they stand, with room for its samples.
+fn level_in(
     chain: Chain,
     figures: Figures,
     bytes: &mut [u8],
@@ -25,9 +52,9 @@ pub fn level_bytes(
     channels: usize,
     samples: usize,
 ) -> Levelled
-    ensures { λ r. ⌜ r ≡ levelled chain figures (now (bytes .entry)) (now (frame .entry)) channels samples .next ⌝ }
-    ensures { λ _. ⌜ now (bytes .exit) ≡ levelled chain figures (now (bytes .entry)) (now (frame .entry)) channels samples .bytes ⌝ }
-    ensures { λ _. ⌜ now (frame .exit) ≡ levelled chain figures (now (bytes .entry)) (now (frame .entry)) channels samples .frame ⌝ }
+    requires { ⌜ length (now frame) ≡ roomFor channels samples ⌝ }
+    ensures { λ r. ⌜ r ≡ levelled chain figures (now (bytes .entry)) channels samples .next ⌝ }
+    ensures { λ _. ⌜ now (bytes .exit) ≡ levelled chain figures (now (bytes .entry)) channels samples .bytes ⌝ }
 {
     let first = read_frame(bytes, frame, channels, samples);
     if first == DONE {
@@ -51,4 +78,22 @@ pub fn level_bytes(
             chain,
         }
     }
+}
+
+// Levels the bytes of a frame where they stand, with the figures that were metered of it. Refused with 1 where they are
+// not two for each sample of a frame of this shape, and with what the chain refuses; the bytes and the chain stay as they
+// were then.
+pub fn level_bytes(
+    chain: Chain,
+    figures: Figures,
+    bytes: &mut [u8],
+    channels: usize,
+    samples: usize,
+) -> Levelled
+    ensures { λ r. ⌜ r ≡ levelled chain figures (now (bytes .entry)) channels samples .next ⌝ }
+    ensures { λ _. ⌜ now (bytes .exit) ≡ levelled chain figures (now (bytes .entry)) channels samples .bytes ⌝ }
+{
+    let mut frame = quiet();
+    let n = room_for(channels, samples);
+    level_in(chain, figures, bytes, &mut frame[..n], channels, samples)
 }

@@ -56,7 +56,7 @@ pub struct Next {
 }
 
 // Whether nothing came out yet.
-fn is_more(got: Got) -> bool
+pub fn is_more(got: Got) -> bool
     ensures { λ r. ⌜ r ≡ isMore (handed got) ⌝ }
 {
     match got {

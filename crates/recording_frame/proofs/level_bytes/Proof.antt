@@ -1,75 +1,38 @@
--- `recording_frame::level_bytes` meets its contract. Assumes nothing.
+-- `recording_frame::level_bytes` meets its contract: a frame is no longer than the room for it. Assumes nothing.
+use mathlib.Core.Path.{sym, _∙_}
+use native.Mathlib.Omega.{arith}
+use lib.Seq.{length-take-le}
 use borrow.Author.Needs.{needs}
-use Rattle.recording_frame.proofs.Outcomes.{unread, refused, taken}
 use Rattle.recording_frame.proofs.level_bytes.Statement.{statement}
 use Rattle.recording_frame.proofs.level_bytes.Tie as tie
 
-read-frame-requires : tie.Need-read-frame-requires
-read-frame-requires c κs = search needs
+quiet-requires : tie.Need-quiet-requires
+quiet-requires c κs = search needs
 
-step-requires : tie.Need-step-requires
-step-requires c κs = search needs
+room-for-requires : tie.Need-room-for-requires
+room-for-requires c κs = search needs
 
-write-frame-requires : tie.Need-write-frame-requires
-write-frame-requires c κs = search needs
+array-borrow-prefix-frame : tie.Need-array-borrow-prefix-frame
+array-borrow-prefix-frame c = search needs
+
+slice-aggregate-level-in : tie.Need-slice-aggregate-level-in
+slice-aggregate-level-in c =
+    let quiet = c .before .before .before .quiet in
+    let n = c .before .before .room-for in
+    sym (length-take-le (n .result) (quiet .result) (omega (arith, n .ensures .0, quiet .ensures)))
+
+level-in-requires : tie.Need-level-in-requires
+level-in-requires c κs =
+    let quiet = c .before .before .before .quiet in
+    let n = c .before .before .room-for in
+    length-take-le (n .result) (quiet .result) (omega (arith, n .ensures .0, quiet .ensures)) ∙ n .ensures .1
 
 same-length : tie.Need-same-length
 same-length c = search needs
 
-same-length-2 : tie.Need-same-length-2
-same-length-2 c = search needs
-
 returns : tie.Need-returns
-returns c =
-    let written = c .before .before .write-frame in
-    let then2 = c .before .before .before .before .before .before in
-    let step = then2 .before .before .before .before .step in
-    let then1 = then2 .before .before .before .before .before .before in
-    let read = then1 .before .before .before .read-frame in
-    let a = then1 .before .before .before .before .before .before .before .before .args in
-    taken (a .chain) (a .figures) (a .bytes .now) (a .frame .now) (a .channels) (a .samples) (read .result) _ (step .result) _ (read .ensures .0) (read .ensures .1) (then1 .if1 .taken)
-    (step .ensures .0) (step .ensures .1 .0) (written .result) _ (then2 .if2 .taken) (written .ensures .0) (written .ensures .1)
-
-same-length-3 : tie.Need-same-length-3
-same-length-3 c = search needs
-
-same-length-4 : tie.Need-same-length-4
-same-length-4 c = search needs
-
-returns-2 : tie.Need-returns-2
-returns-2 c =
-    let step = c .before .before .before .before .step in
-    let then1 = c .before .before .before .before .before .before in
-    let read = then1 .before .before .before .read-frame in
-    let a = then1 .before .before .before .before .before .before .before .before .args in
-    refused (a .chain) (a .figures) (a .bytes .now) (a .frame .now) (a .channels) (a .samples) (read .result) _ (step .result) _ (read .ensures .0) (read .ensures .1) (then1 .if1 .taken)
-    (step .ensures .0) (step .ensures .1 .0) (c .if2 .left)
-
-same-length-5 : tie.Need-same-length-5
-same-length-5 c = search needs
-
-same-length-6 : tie.Need-same-length-6
-same-length-6 c = search needs
-
-returns-3 : tie.Need-returns-3
-returns-3 c =
-    let read = c .before .before .before .read-frame in
-    let a = c .before .before .before .before .before .before .before .before .args in
-    unread (a .chain) (a .figures) (a .bytes .now) (a .frame .now) (a .channels) (a .samples) (read .result) _ (read .ensures .0) (read .ensures .1) (c .if1 .left)
+returns c = search needs
 
 pub level-bytes-spec : {M : Type 1} → statement M
 level-bytes-spec =
-    tie.close
-    (tie.spec
-    read-frame-requires
-    step-requires
-    write-frame-requires
-    same-length
-    same-length-2
-    returns
-    same-length-3
-    same-length-4
-    returns-2
-    same-length-5
-    same-length-6
-    returns-3)
+    tie.close (tie.spec quiet-requires room-for-requires array-borrow-prefix-frame slice-aggregate-level-in level-in-requires same-length returns)

@@ -1,7 +1,7 @@
 -- Writing is never refused after the chain: what a step hands out is of full scale, and fits where it was read. Laws.
 -- Assumes nothing.
-use mathlib.Core.Path.{_≡_, refl, sym, ap, subst, _∙_}
-use mathlib.Core.Bool.{true, _&&_}
+use mathlib.Core.Path.{_≡_, refl, sym, ap, _∙_}
+use mathlib.Core.Bool.{true}
 use mathlib.Core.List.{List, [], _∷_, _++_, append-nil}
 use Prim.Native.Nat.{ℕ, zero, suc, _+_, _*_, _-_, _/_, _%_}
 use native.Mathlib.Nat.{le-of-eq}
@@ -17,8 +17,7 @@ use Rattle.rounding.specs.Laws.Order.{units→le}
 use Rattle.lists.specs.Each.{Each}
 use Rattle.lists.specs.Tests.{each-of, _and_}
 use Rattle.units.specs.Output.{Put}
-use Rattle.units.specs.Replies.{done, refusal}
-use Rattle.units.specs.Laws.Replies.{none-refused}
+use Rattle.units.specs.Replies.{done}
 use Rattle.units.specs.declared.figures.Figures.{Figures}
 use Rattle.frames.specs.Shape.{isShape}
 use Rattle.gain_applier.specs.Range.{Held}
@@ -29,11 +28,10 @@ use Rattle.chain.specs.Laws.Calls.{called-full-scale}
 use Rattle.chain.specs.Laws.Frames.{either}
 use Rattle.chain.specs.declared.Chain.{Chain}
 use Rattle.wav_format.specs.Bytes.{littleAt}
-use Rattle.wav_format.specs.Samples.{FrameRead, soundOf, heardFrom, frameRead, fullScale, allFullScale, bytesFrom, frameWritten}
-use Rattle.wav_format.specs.Laws.Samples.{heard-length, frame-heard, frame-written}
-use Rattle.recording_frame.specs.Levelling.{Outcome, levelled}
+use Rattle.wav_format.specs.Samples.{soundOf, heardFrom, fullScale, allFullScale, bytesFrom, frameWritten}
+use Rattle.wav_format.specs.Laws.Samples.{heard-length, frame-written}
+use Rattle.recording_frame.specs.Levelling.{Outcome, isFrame, levelled}
 use Rattle.recording_frame.specs.Laws.Lengths.{called-long}
-use Rattle.recording_frame.specs.Laws.Ways.{taken}
 
 -- ---- a frame of full scale passes the writer's test
 sample-full : (x : Float) → Fits16 x → fullScale x ≡ true
@@ -66,45 +64,50 @@ heard-held bytes channels samples j zero i = nan-held
 heard-held bytes channels samples j (suc k) zero = sound-held (littleAt bytes (2 * (j % samples * channels + j / samples)) 2)
 heard-held bytes channels samples j (suc k) (suc i) = heard-held bytes channels samples (j + 1) k i
 
-module _ (chain : Chain) (figures : Figures) (bytes : List ℕ) (frame : List Float) (channels samples : ℕ) (held : HeldChain chain) (given : HeldFigures figures)
-    (read : frameRead bytes frame channels samples .reply ≡ done) (step : called chain figures (frameRead bytes frame channels samples .frame) channels samples .told .reply ≡ done) where
-  fitting : isShape channels samples (length frame) && eqb (length bytes) (2 * length frame) ≡ true
-  unfolding frameRead refusal
-  fitting = none-refused (isShape channels samples (length frame) && eqb (length bytes) (2 * length frame)) true true true read .0
+module _ (chain : Chain) (figures : Figures) (bytes : List ℕ) (channels samples : ℕ) (held : HeldChain chain) (given : HeldFigures figures)
+    (frame : isFrame bytes channels samples ≡ true)
+    (step : called chain figures (heardFrom bytes channels samples 0 (channels * samples)) channels samples .told .reply ≡ done) where
+  -- the frame, and the levelled one
+  abbrev heard : List Float
+  heard = heardFrom bytes channels samples 0 (channels * samples)
 
-  heard-is : frameRead bytes frame channels samples .frame ≡ heardFrom bytes channels samples 0 (length frame)
-  heard-is = ap (λ (r : FrameRead). r .frame) (frame-heard bytes frame channels samples fitting)
-
-  -- the levelled frame
   abbrev after : List Float
-  after = called chain figures (frameRead bytes frame channels samples .frame) channels samples .frame
+  after = called chain figures heard channels samples .frame
 
-  long : length after ≡ length frame
-  long = called-long chain figures (frameRead bytes frame channels samples .frame) channels samples ∙ ap length heard-is ∙ heard-length bytes channels samples 0 (length frame)
+  long : length after ≡ channels * samples
+  long = called-long chain figures heard channels samples ∙ heard-length bytes channels samples 0 (channels * samples)
 
   full : allFullScale after ≡ true
   full =
       all-full after
-      (called-full-scale chain figures (frameRead bytes frame channels samples .frame) channels samples held given
-      (subst Held (sym heard-is) (heard-held bytes channels samples 0 (length frame))) step)
+      (called-full-scale chain figures heard channels samples held given (heard-held bytes channels samples 0 (channels * samples)) step)
 
   shape : isShape channels samples (length after) ≡ true
-  shape = ap (isShape channels samples) long ∙ each-of (_ ∷ _ ∷ []) fitting 0
+  unfolding isFrame
+  shape = ap (isShape channels samples) long ∙ each-of (_ ∷ _ ∷ []) frame 0
 
   twice : length bytes ≡ 2 * length after
-  twice = eqb-true (length bytes) (2 * length frame) (each-of (isShape channels samples (length frame) ∷ _ ∷ []) fitting 1) ∙ ap (λ (n : ℕ). 2 * n) (sym long)
+  unfolding isFrame
+  twice =
+      eqb-true (length bytes) (2 * (channels * samples)) (each-of (isShape channels samples (channels * samples) ∷ _ ∷ []) frame 1)
+      ∙ ap (λ (n : ℕ). 2 * n) (sym long)
 
   written : frameWritten after channels samples bytes ≡ record { reply = done; out = bytesFrom after channels samples 0 (length after) ++ drop (2 * length after) bytes }
   written = frame-written after channels samples bytes shape full (le-of-eq (sym twice))
 
+  is-taken : levelled chain figures bytes channels samples
+      ≡ record { next = record { reply = frameWritten after channels samples bytes .reply; chain = called chain figures heard channels samples .told .chain }; bytes = frameWritten after channels samples bytes .out }
+  unfolding levelled
+  is-taken = rw (frame, step)
+
   -- Where the bytes are a frame's and the step is done, the whole is done,
-  pub never-refused : levelled chain figures bytes frame channels samples .next .reply ≡ done
-  never-refused = ap (λ (o : Outcome). o .next .reply) (taken chain figures bytes frame channels samples read step) ∙ ap (λ (p : Put). p .reply) written
+  pub never-refused : levelled chain figures bytes channels samples .next .reply ≡ done
+  never-refused = ap (λ (o : Outcome). o .next .reply) is-taken ∙ ap (λ (p : Put). p .reply) written
 
   -- and the bytes are those of the levelled frame, every one.
-  pub levelled-bytes : levelled chain figures bytes frame channels samples .bytes ≡ bytesFrom after channels samples 0 (length after)
+  pub levelled-bytes : levelled chain figures bytes channels samples .bytes ≡ bytesFrom after channels samples 0 (length after)
   levelled-bytes =
-      ap (λ (o : Outcome). o .bytes) (taken chain figures bytes frame channels samples read step)
+      ap (λ (o : Outcome). o .bytes) is-taken
       ∙ ap (λ (p : Put). p .out) written
       ∙ ap (λ (rest : List ℕ). bytesFrom after channels samples 0 (length after) ++ rest) (drop-of-length-le bytes (le-of-eq twice))
       ∙ append-nil (bytesFrom after channels samples 0 (length after))

@@ -11,6 +11,9 @@ Inv-loop from buffer₀ filled₀ turns₀ buffer filled turns = length buffer �
 abbrev μ-loop : tie.MeasureT-loop
 μ-loop from buffer₀ filled₀ turns₀ buffer filled turns = turns
 
+empty-requires : tie.Need-empty-requires Inv-loop μ-loop
+empty-requires c κs = search needs
+
 loop-holds : tie.Need-loop-holds Inv-loop μ-loop
 loop-holds c = search needs
 
@@ -44,6 +47,7 @@ fill-spec =
     (tie.spec
     Inv-loop
     μ-loop
+    empty-requires
     loop-holds
     read-once-requires
     sub-turns

@@ -1,15 +1,16 @@
 -- `recording::input::within` meets its contract. Assumes nothing.
 use mathlib.Core.Path.{sym}
-use lib.Seq.{length-take-le}
 use native.Mathlib.Omega.{arith}
+use lib.Seq.{length-take-le}
+use borrow.Author.Needs.{needs}
 use Rattle.recording.proofs.input.within.Statement.{statement}
 use Rattle.recording.proofs.input.within.Tie as tie
 
 returns : tie.Need-returns
-returns c = (c .if1 .taken, sym (length-take-le _ _ (c .if1 .taken)))
+returns c = ((omega arith, sym (length-take-le _ _ (omega arith))), search needs)
 
 returns-2 : tie.Need-returns-2
-returns-2 c = (omega arith, sym (length-take-le _ _ (omega arith)))
+returns-2 c = ((omega arith, sym (length-take-le _ _ (omega arith))), search needs)
 
 pub within-spec : {M : Type 1} → statement M
 within-spec = tie.close (tie.spec returns returns-2)

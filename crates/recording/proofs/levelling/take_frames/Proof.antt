@@ -6,10 +6,10 @@ use Rattle.recording.proofs.levelling.take_frames.Statement.{statement}
 use Rattle.recording.proofs.levelling.take_frames.Tie as tie
 
 abbrev Inv-loop : tie.InvT-loop
-Inv-loop desk bytes₀ frame₀ now₀ turns₀ bytes frame now turns = (length bytes ≡ length bytes₀) × (length frame ≡ length frame₀)
+Inv-loop desk block₀ bytes₀ now₀ more₀ turns₀ block bytes now more turns = (length block ≡ length block₀) × (length bytes ≡ length bytes₀)
 
 abbrev μ-loop : tie.MeasureT-loop
-μ-loop desk bytes₀ frame₀ now₀ turns₀ bytes frame now turns = turns
+μ-loop desk block₀ bytes₀ now₀ more₀ turns₀ block bytes now more turns = turns
 
 loop-holds : tie.Need-loop-holds Inv-loop μ-loop
 loop-holds c = search needs
@@ -45,4 +45,19 @@ returns-2 : tie.Need-returns-2 Inv-loop μ-loop
 returns-2 c = search needs
 
 pub take-frames-spec : {M : Type 1} → statement M
-take-frames-spec = tie.close (tie.spec Inv-loop μ-loop loop-holds next-frame-requires sub-turns loop-less loop-again same-length same-length-2 returns same-length-3 same-length-4 returns-2)
+take-frames-spec =
+    tie.close
+    (tie.spec
+    Inv-loop
+    μ-loop
+    loop-holds
+    next-frame-requires
+    sub-turns
+    loop-less
+    loop-again
+    same-length
+    same-length-2
+    returns
+    same-length-3
+    same-length-4
+    returns-2)

@@ -4,22 +4,22 @@ use Rattle.recording.proofs.wave.find.Statement.{statement}
 use Rattle.recording.proofs.wave.find.Tie as tie
 
 abbrev Inv-loop : tie.InvT-loop
-Inv-loop now₀ turns₀ now turns = Unit {0}
+Inv-loop now₀ more₀ turns₀ now more turns = Unit {0}
 
 abbrev μ-loop : tie.MeasureT-loop
-μ-loop now₀ turns₀ now turns = turns
+μ-loop now₀ more₀ turns₀ now more turns = turns
 
-starts-requires : tie.Need-starts-requires Inv-loop μ-loop
-starts-requires c κs = search needs
-
-unknown-requires : tie.Need-unknown-requires Inv-loop μ-loop
-unknown-requires c κs = search needs
+begin-requires : tie.Need-begin-requires Inv-loop μ-loop
+begin-requires c κs = search needs
 
 loop-holds : tie.Need-loop-holds Inv-loop μ-loop
 loop-holds c = search needs
 
-next-chunk-requires : tie.Need-next-chunk-requires Inv-loop μ-loop
-next-chunk-requires c κs = search needs
+search-once-requires : tie.Need-search-once-requires Inv-loop μ-loop
+search-once-requires c κs = search needs
+
+goes-on-requires : tie.Need-goes-on-requires Inv-loop μ-loop
+goes-on-requires c κs = search needs
 
 sub-turns : tie.Need-sub-turns Inv-loop μ-loop
 sub-turns c = search needs
@@ -37,4 +37,17 @@ returns-2 : tie.Need-returns-2 Inv-loop μ-loop
 returns-2 c = search needs
 
 pub find-spec : {M : Type 1} → statement M
-find-spec = tie.close (tie.spec Inv-loop μ-loop starts-requires unknown-requires loop-holds next-chunk-requires sub-turns loop-less loop-again returns returns-2)
+find-spec =
+    tie.close
+    (tie.spec
+    Inv-loop
+    μ-loop
+    begin-requires
+    loop-holds
+    search-once-requires
+    goes-on-requires
+    sub-turns
+    loop-less
+    loop-again
+    returns
+    returns-2)

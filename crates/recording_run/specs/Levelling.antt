@@ -1,0 +1,118 @@
+-- A run over the frames of a recording. Definitions only.
+use mathlib.Core.Bool.{Bool, true, false, _&&_, not, cond}
+use mathlib.Core.List.{List, [], _∷_, _++_}
+use Prim.Native.Nat.{ℕ, _+_, _*_, _-_, _/_, _%_, _^_}
+use lib.Dec.{eqb, leb, ltb}
+use lib.ListN.{take, drop}
+use Rattle.units.specs.Replies.{done, badShape}
+use Rattle.units.specs.declared.figures.Figures.{Figures}
+use Rattle.chain.specs.Calls.{made}
+use Rattle.chain.specs.declared.Chain.{Chain}
+use Rattle.strip_format.specs.declared.Head.{Head}
+use Rattle.strip_reader.specs.declared.Got.{Got}
+use Rattle.strip_reader.specs.declared.Got.the-variants as Came
+use Rattle.wav_format.specs.Head.{putHead}
+use Rattle.recording_frame.specs.Levelling.{levelled}
+use Rattle.recording_run.specs.declared.levelling.Told.{Told}
+use Rattle.recording_run.specs.declared.levelling.Told.the-variants.{Nothing, Minute, StripEnds, Refused, Missing, StripGoesOn}
+use Rattle.recording_run.specs.declared.levelling.Run.{Run}
+use Rattle.recording_run.specs.declared.levelling.Extent.{Extent}
+use Rattle.recording_run.specs.declared.levelling.Begun.{Begun}
+use Rattle.recording_run.specs.declared.levelling.Turn.{Turn}
+
+-- ---- how many bytes
+-- the bytes of whole groups of samples, of 1 to 8 channels
+unfoldable pub wholeGroups : ℕ → ℕ → ℕ
+wholeGroups n channels = cond (leb 1 channels && leb channels 8) (n - n % (2 * channels)) 0
+
+-- a size from here on is what a program writes that does not know it
+abbrev pub isUnknown : ℕ → Bool
+isUnknown size = leb 0x7fff_0000 size
+
+-- the levelled file says the size of the whole groups; one that is unknown is kept, and then all that comes is read
+unfoldable pub extentOf : ℕ → ℕ → Extent
+extentOf size channels =
+    let known = not (isUnknown size) in
+    record { known = known; size = cond known (wholeGroups size channels) size; left = cond known (wholeGroups size channels) 18446744073709551615 }
+
+-- two bytes for each sample of a frame of at most 8 channels and 480 samples
+unfoldable pub frameBytes : ℕ → ℕ → ℕ
+frameBytes channels samples = cond (leb channels 8 && leb samples 480) (2 * (channels * samples)) 0
+
+-- ---- the start: the head of the levelled file, a new chain, and the frame of number 1
+pub record Beginning : Type 0 where
+  pub begun : Begun
+  pub out : List ℕ
+
+unfoldable pub begun : Head → ℕ → ℕ → ℕ → List ℕ → Beginning
+begun head channels samples size out =
+    let extent = extentOf size channels in
+    let written = putHead channels samples (extent .size) out in
+    let chain = made (head .settings) (head .threshold) (head .samples) .chain in
+    let run : Run = record { chain = chain; number = 1; left = extent .left; more = true; well = true } in
+    cond (eqb samples (head .samples))
+    (record { begun = record { reply = written .reply; known = extent .known; run = run }; out = written .out })
+    (record { begun = record { reply = badShape; known = extent .known; run = run }; out = out })
+
+-- ---- a frame is heard
+-- as many bytes, all 0
+unfoldable pub quiet : List ℕ → List ℕ
+quiet [] = []
+quiet (x ∷ xs) = 0 ∷ quiet xs
+
+-- the bytes from a place on are 0, and those before it stay
+unfoldable pub silenced : ℕ → List ℕ → List ℕ
+silenced from bytes = take from bytes ++ quiet (drop from bytes)
+
+-- there is no frame where no byte of a whole group came, or where a read failed, and then not all went well
+abbrev pub heard : Run → ℕ → Bool → Run
+heard run n failed =
+    record { chain = run .chain; number = run .number; left = run .left; more = ltb 0 n && not failed; well = not failed }
+
+-- ---- it is levelled
+-- the run after a frame, what is told and how many bytes are written, and the bytes
+pub record Framed : Type 0 where
+  pub turn : Turn
+  pub bytes : List ℕ
+
+-- 6000 frames are a minute
+unfoldable pub minute : ℕ → Told
+minute number = cond (eqb (number % 6000) 0) (Minute (number / 6000)) Nothing
+
+-- the run ends, and nothing is written
+abbrev pub stopped : Run → Told → Turn
+stopped run told =
+    record { run = record { chain = run .chain; number = run .number; left = run .left; more = false; well = false }; told = told; n = 0 }
+
+unfoldable pub framed : Run → ℕ → Figures → List ℕ → ℕ → ℕ → Framed
+framed run n figures bytes channels samples =
+    let after = levelled (run .chain) figures bytes channels samples in
+    record {
+      turn =
+          cond (eqb (after .next .reply) done)
+          (record {
+            run = record { chain = after .next .chain; number = (run .number + 1) % 2 ^ 64; left = run .left - n; more = true; well = true };
+            told = minute (run .number);
+            n = n;
+          })
+          (stopped run (Refused (after .next .reply) (run .number)));
+      bytes = after .bytes;
+    }
+
+-- with what came out of the strip for it: without a record the run ends
+unfoldable pub entered : Got → Run → ℕ → List ℕ → ℕ → ℕ → Framed
+entered Came.More run n bytes channels samples = record { turn = stopped run Nothing; bytes = bytes }
+entered (Came.Head head) run n bytes channels samples = record { turn = stopped run Nothing; bytes = bytes }
+entered (Came.Record figures) run n bytes channels samples = framed run n figures bytes channels samples
+entered Came.End run n bytes channels samples = record { turn = stopped run (StripEnds (run .number)); bytes = bytes }
+entered (Came.Refused reply) run n bytes channels samples = record { turn = stopped run (Refused reply (run .number)); bytes = bytes }
+
+-- ---- it is written, or could not be
+abbrev pub afterWrite : Run → Bool → Run
+afterWrite run written =
+    record { chain = run .chain; number = run .number; left = run .left; more = run .more && written; well = run .well && written }
+
+-- ---- the end: what is told of a run that went well, where the strip has so many bytes more
+unfoldable pub atEnd : Run → Bool → ℕ → Told
+atEnd run known rest =
+    cond (run .well) (cond (known && ltb 0 (run .left)) (Missing (run .left)) (cond (ltb 0 rest) (StripGoesOn (run .number)) Nothing)) Nothing

@@ -1,0 +1,6 @@
+-- What the program `recording` decides between its reads and writes, and what is proved of it.
+pub mod Input
+pub mod Wave
+pub mod Strip
+pub mod Levelling
+pub mod Laws

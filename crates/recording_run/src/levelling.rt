@@ -1,0 +1,301 @@
+// A run over the frames of a recording: how many bytes are due, what becomes of a frame, and what is told.
+
+ghost use mathlib.Core.Path.{_≡_};
+ghost use Prim.Native.Nat.{_≤_};
+ghost use Rattle.recording_run.specs.Levelling.{wholeGroups, isUnknown, extentOf, frameBytes, begun, silenced, heard, minute, stopped, framed, entered, afterWrite, atEnd};
+use crate::input::less;
+use chain::Chain;
+use recording_frame::level_bytes;
+use std::num::wrapping_add_u64;
+use strip_format::Head;
+use strip_reader::Got;
+use units::figures::Figures;
+use units::replies::DONE;
+use units::replies::SHAPE;
+use wav_format::head::write_head;
+
+// A size from here on is what a program writes that does not know it: the samples end where the input ends.
+const UNKNOWN: u32 = 0x7fff_0000;
+
+// So many frames are a minute.
+const MINUTE: u64 = 6000;
+
+// What is told of a run: nothing; that so many minutes are levelled; that the strip ends before the frame of this number;
+// that a record is refused with this reply, and its number; that so many bytes of the samples are missing; or that the
+// strip goes on with the record of this number after the recording.
+pub enum Told {
+    Nothing,
+    Minute(u64),
+    StripEnds(u64),
+    Refused(u32, u64),
+    Missing(usize),
+    StripGoesOn(u64),
+}
+
+// How far a run is: the chain, the number of the next frame, how many bytes of samples are still to come, whether it goes
+// on, and whether all went well so far.
+pub struct Run {
+    pub chain: Chain,
+    pub number: u64,
+    pub left: usize,
+    pub more: bool,
+    pub well: bool,
+}
+
+// Whether it is known how many bytes of samples there are; how many the levelled file says; and how many are read, at most.
+pub struct Extent {
+    pub known: bool,
+    pub size: u32,
+    pub left: usize,
+}
+
+// A reply's number, whether it is known how many bytes of samples there are, and the run before its first frame.
+pub struct Begun {
+    pub reply: u32,
+    pub known: bool,
+    pub run: Run,
+}
+
+// The run after a frame, what is told of it, and how many of its bytes are written.
+pub struct Turn {
+    pub run: Run,
+    pub told: Told,
+    pub n: usize,
+}
+
+// So many bytes, without those of a group of samples that is not whole. Of more than 8 channels, and of none, it is 0.
+fn whole_groups(n: usize, channels: usize) -> usize
+    ensures { λ r. ⌜ r ≡ wholeGroups n channels ⌝ }
+    ensures { λ r. ⌜ r ≤ n ⌝ }
+{
+    if 1 <= channels {
+        if channels <= 8 {
+            n - n % (2 * channels)
+        } else {
+            0
+        }
+    } else {
+        0
+    }
+}
+
+// Whether a size of samples is one that a program writes that does not know it.
+fn is_unknown(size: u32) -> bool
+    ensures { λ r. ⌜ r ≡ isUnknown size ⌝ }
+{
+    UNKNOWN <= size
+}
+
+// How many bytes there are of samples whose chunk says this size. Where it is unknown, the levelled file says the same.
+pub fn extent_of(size: u32, channels: usize) -> Extent
+    ensures { λ r. ⌜ r ≡ extentOf size channels ⌝ }
+{
+    let known = !is_unknown(size);
+    let whole = whole_groups(size as usize, channels);
+    Extent {
+        known,
+        size: floats::pick_u32(known, whole as u32, size),
+        left: floats::pick_usize(known, whole, usize::MAX),
+    }
+}
+
+// The bytes of a frame of this shape: none where it has more channels or samples than any frame.
+pub fn frame_bytes(channels: usize, samples: usize) -> usize
+    ensures { λ r. ⌜ r ≡ frameBytes channels samples ⌝ }
+    ensures { λ r. ⌜ r ≤ 7680 ⌝ }
+{
+    if channels <= 8 {
+        if samples <= 480 {
+            2 * (channels * samples)
+        } else {
+            0
+        }
+    } else {
+        0
+    }
+}
+
+// Begins a run with the head of a strip and samples of this format, whose chunk says this size: the head of the levelled
+// file in the first bytes of a lent buffer, and a new chain. Refused with 1 where the strip is for another number of
+// samples, and with what the head is refused with; nothing is written then.
+pub fn begin(head: Head, channels: usize, samples: usize, size: u32, out: &mut [u8]) -> Begun
+    ensures { λ r. ⌜ r ≡ begun head channels samples size (now (out .entry)) .begun ⌝ }
+    ensures { λ _. ⌜ now (out .exit) ≡ begun head channels samples size (now (out .entry)) .out ⌝ }
+{
+    let settings = head.settings;
+    let made = Chain::new(settings, head.threshold, head.samples);
+    let chain = made.chain;
+    let extent = extent_of(size, channels);
+    let run = Run {
+        chain,
+        number: 1,
+        left: extent.left,
+        more: true,
+        well: true,
+    };
+    if samples == head.samples {
+        Begun {
+            reply: write_head(channels, samples, extent.size, out),
+            known: extent.known,
+            run,
+        }
+    } else {
+        Begun {
+            reply: SHAPE,
+            known: extent.known,
+            run,
+        }
+    }
+}
+
+// Stores 0 in the bytes from a place on.
+fn silence(bytes: &mut [u8], from: usize)
+    ensures { λ _. ⌜ now (bytes .exit) ≡ silenced from (now (bytes .entry)) ⌝ }
+{
+    let mut i = from;
+    while i < bytes.len() {
+        bytes[i] = 0;
+        i += 1;
+    }
+}
+
+// Hears a frame of which so many bytes came: those of whole groups of samples, and silence behind them. It answers how many
+// they are.
+pub fn hear(bytes: &mut [u8], came: usize, channels: usize) -> usize
+    ensures { λ r. ⌜ r ≡ wholeGroups came channels ⌝ }
+    ensures { λ _. ⌜ now (bytes .exit) ≡ silenced (wholeGroups came channels) (now (bytes .entry)) ⌝ }
+{
+    let n = whole_groups(came, channels);
+    silence(bytes, n);
+    n
+}
+
+// The run once so many bytes of a frame were heard: it ends where there are none, and where a read failed.
+pub fn heard_run(run: Run, n: usize, failed: bool) -> Run
+    ensures { λ r. ⌜ r ≡ heard run n failed ⌝ }
+{
+    let chain = run.chain;
+    Run {
+        chain,
+        number: run.number,
+        left: run.left,
+        more: (0 < n) & !failed,
+        well: !failed,
+    }
+}
+
+// What is told of a frame that is levelled: each minute.
+fn told_minute(number: u64) -> Told
+    ensures { λ r. ⌜ r ≡ minute number ⌝ }
+{
+    if number % MINUTE == 0 {
+        Told::Minute(number / MINUTE)
+    } else {
+        Told::Nothing
+    }
+}
+
+// A run that ends before its next frame, which is not written.
+fn stop(run: Run, told: Told) -> Turn
+    ensures { λ r. ⌜ r ≡ stopped run told ⌝ }
+{
+    let chain = run.chain;
+    Turn {
+        run: Run {
+            chain,
+            number: run.number,
+            left: run.left,
+            more: false,
+            well: false,
+        },
+        told,
+        n: 0,
+    }
+}
+
+// Levels a frame of which so many bytes were heard, with its figures.
+fn take_figures(
+    run: Run,
+    n: usize,
+    figures: Figures,
+    bytes: &mut [u8],
+    channels: usize,
+    samples: usize,
+) -> Turn
+    ensures { λ r. ⌜ r ≡ framed run n figures (now (bytes .entry)) channels samples .turn ⌝ }
+    ensures { λ _. ⌜ now (bytes .exit) ≡ framed run n figures (now (bytes .entry)) channels samples .bytes ⌝ }
+{
+    let before = run.chain;
+    let next = level_bytes(before, figures, bytes, channels, samples);
+    if next.reply == DONE {
+        let chain = next.chain;
+        Turn {
+            run: Run {
+                chain,
+                number: wrapping_add_u64(run.number, 1),
+                left: less(run.left, n),
+                more: true,
+                well: true,
+            },
+            told: told_minute(run.number),
+            n,
+        }
+    } else {
+        stop(run, Told::Refused(next.reply, run.number))
+    }
+}
+
+// Levels a frame of which so many bytes were heard, with what came out of the strip for it. The run ends where that is no
+// record, and where the chain refuses the frame; the bytes stay as they were then. Nothing comes out where a read failed,
+// which was told, and after the first time no head does.
+pub fn take_entry(
+    run: Run,
+    n: usize,
+    got: Got,
+    bytes: &mut [u8],
+    channels: usize,
+    samples: usize,
+) -> Turn
+    ensures { λ r. ⌜ r ≡ entered got run n (now (bytes .entry)) channels samples .turn ⌝ }
+    ensures { λ _. ⌜ now (bytes .exit) ≡ entered got run n (now (bytes .entry)) channels samples .bytes ⌝ }
+{
+    match got {
+        Got::More => stop(run, Told::Nothing),
+        Got::Head(_) => stop(run, Told::Nothing),
+        Got::Record(figures) => take_figures(run, n, figures, bytes, channels, samples),
+        Got::End => stop(run, Told::StripEnds(run.number)),
+        Got::Refused(reply) => stop(run, Told::Refused(reply, run.number)),
+    }
+}
+
+// The run once its frame was written, or could not be.
+pub fn after_write(run: Run, written: bool) -> Run
+    ensures { λ r. ⌜ r ≡ afterWrite run written ⌝ }
+{
+    let chain = run.chain;
+    Run {
+        chain,
+        number: run.number,
+        left: run.left,
+        more: run.more & written,
+        well: run.well & written,
+    }
+}
+
+// What is told at the end of a run, after which the strip has so many bytes or more: that bytes of the samples are missing,
+// where it is known how many there are, or that the strip goes on. Of a run that did not go well all is told.
+pub fn told_at_end(run: Run, known: bool, rest: usize) -> Told
+    ensures { λ r. ⌜ r ≡ atEnd run known rest ⌝ }
+{
+    if run.well {
+        if known & (0 < run.left) {
+            Told::Missing(run.left)
+        } else if 0 < rest {
+            Told::StripGoesOn(run.number)
+        } else {
+            Told::Nothing
+        }
+    } else {
+        Told::Nothing
+    }
+}
