@@ -4,9 +4,7 @@
 //
 // The memory is fixed: a strip of any length goes through.
 
-ghost use Prim.Native.Nat.{_≤_};
 ghost use Rattle.io.specs.Counts.{Counts};
-ghost use lib.ListN.{length};
 use strip_run::Run;
 use units::replies::DONE;
 
@@ -19,15 +17,10 @@ struct Filled {
     well: bool,
 }
 
-// As many bytes of a buffer as asked, and never more than it has.
-fn within(n: usize, buffer: &[u8]) -> usize
-    ensures { λ r. ⌜ Counts r (now (buffer .entry)) ⌝ }
-{
-    if n <= buffer.len() { n } else { buffer.len() }
-}
-
 // Reads a block. A read that fails is told.
-fn read_block(block: &mut [u8]) -> Filled {
+fn read_block(block: &mut [u8]) -> Filled
+    ensures { λ r. ⌜ Counts (r .n) (now (block .exit)) ⌝ }
+{
     let got = libc::read(libc::STDIN_FILENO, block);
     let n = io::count(got, block);
     if got < 0 {
@@ -37,13 +30,12 @@ fn read_block(block: &mut [u8]) -> Filled {
 }
 
 // Writes the lines of a block, and answers whether that went well. Where not, it is told.
-fn write(out: &[u8], length: usize, reply: u32) -> bool {
+fn write(lines: &[u8], reply: u32) -> bool {
     if reply != DONE {
         io::write_all(libc::STDERR_FILENO, b"strip: the lines do not fit\n");
         return false;
     }
-    let n = within(length, out);
-    let written = io::write_all(libc::STDOUT_FILENO, &out[..n]);
+    let written = io::write_all(libc::STDOUT_FILENO, lines);
     if !written {
         os::fail(b"strip: standard output");
     }
@@ -60,10 +52,11 @@ fn main() {
     let mut turns = u64::MAX;
     while turns > 0 && more {
         let filled = read_block(&mut block);
-        let n = within(filled.n, &block);
+        let n = filled.n;
         if filled.well {
             let taken = run.take(&block[..n], &mut out);
-            let written = write(&out, taken.length, taken.reply);
+            let length = taken.length;
+            let written = write(&out[..length], taken.reply);
             run = taken.run;
             more = written & run.desk.more;
         } else {

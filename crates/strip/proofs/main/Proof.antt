@@ -1,5 +1,14 @@
 -- `strip::main` is safe and ends: it counts its turns down. Assumes nothing.
-use mathlib.Core.Path.{_≡_}
+use mathlib.Core.Path.{_≡_, sym}
+use mathlib.Core.List.{List}
+use Prim.Native.Nat.{ℕ, _≤_}
+use native.Mathlib.Omega.{arith}
+use lib.Seq.{length-take-le}
+use Rattle.strip_format.specs.Format.{one}
+use Rattle.strip_run.specs.Run.{takenOf}
+use Rattle.strip_run.specs.Laws.Room.{taken-fits}
+use Rattle.strip_run.specs.declared.Run.{Run}
+use Rattle.strip_run.specs.declared.Taken.{Taken}
 use mathlib.Core.Logic.{⊎-elim}
 use lib.ListN.{length}
 use borrow.Author.Needs.{needs}
@@ -27,12 +36,6 @@ slice-aggregate-read-block c = search needs
 read-block-requires : tie.Need-read-block-requires Inv-loop μ-loop
 read-block-requires c κs = search needs
 
-slice-aggregate-within : tie.Need-slice-aggregate-within Inv-loop μ-loop
-slice-aggregate-within c = search needs
-
-within-requires : tie.Need-within-requires Inv-loop μ-loop
-within-requires c κs = search needs
-
 array-share-prefix-block : tie.Need-array-share-prefix-block Inv-loop μ-loop
 array-share-prefix-block c = search needs
 
@@ -45,8 +48,23 @@ slice-aggregate-take-2 c = search needs
 take-requires : tie.Need-take-requires Inv-loop μ-loop
 take-requires c κs = search needs
 
+-- the lines have room in the buffer
+fits : (r : Run) (block : List ℕ) (space : ℕ) (answer : Taken) → answer ≡ takenOf one r block space → answer .length ≤ space
+fits r block space answer e = rw e (taken-fits one r block space)
+
+array-share-prefix-out : tie.Need-array-share-prefix-out Inv-loop μ-loop
+array-share-prefix-out c =
+    let t = c .before .take in
+    let long : length (t .last .1 .1 .0) ≡ 65536 = search needs in
+    omega (arith, fits _ _ _ (t .result) (t .ensures .0), c .before .before .before .before .before .before .before .before .before .before .loop .inv .1)
+
 slice-aggregate-write : tie.Need-slice-aggregate-write Inv-loop μ-loop
-slice-aggregate-write c = search needs
+slice-aggregate-write c =
+    let t = c .before .before .take in
+    let long : length (t .last .1 .1 .0) ≡ 65536 = search needs in
+    sym
+    (length-take-le _ _
+    (omega (arith, fits _ _ _ (t .result) (t .ensures .0), c .before .before .before .before .before .before .before .before .before .before .before .loop .inv .1)))
 
 write-requires : tie.Need-write-requires Inv-loop μ-loop
 write-requires c κs = search needs
@@ -77,12 +95,11 @@ main-spec =
     loop-holds
     slice-aggregate-read-block
     read-block-requires
-    slice-aggregate-within
-    within-requires
     array-share-prefix-block
     slice-aggregate-take
     slice-aggregate-take-2
     take-requires
+    array-share-prefix-out
     slice-aggregate-write
     write-requires
     sub-turns

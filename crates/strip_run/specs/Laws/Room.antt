@@ -1,25 +1,30 @@
--- No line that is printed is longer than what there is room for. Laws.
+-- No line that is printed is longer than what there is room for, and what a block prints has room in its buffer. Laws.
 -- Assumes nothing.
 use mathlib.Core.Bool.{Bool, true, false, cond}
-use mathlib.Core.List.{[]}
-use Prim.Native.Nat.{ℕ, _≤_}
+use mathlib.Core.Path.{_≡_, refl}
+use mathlib.Core.List.{List, [], _∷_}
+use Prim.Native.Nat.{ℕ, _*_, _/_, _≤_, _<_}
 use native.Mathlib.Omega.{arith}
-use lib.Dec.{eqb}
-use lib.ListN.{length}
-use Rattle.units.specs.Replies.{done, badLength}
+use borrow.Author.Tests.{ltb-true}
+use lib.Dec.{eqb, ltb}
+use lib.ListN.{length, length-append}
+use Rattle.units.specs.Replies.{done, badLength, noRoom}
 use Rattle.units.specs.declared.figures.Figures.{Figures}
 use Rattle.chain.specs.Calls.{Told, made, called, publishedTold, samplesTold}
 use Rattle.chain.specs.declared.Made.{Made}
 use Rattle.chain.specs.declared.Published.{Published}
 use Rattle.chain.specs.declared.Reading.{Reading}
 use Rattle.chain.specs.declared.SamplesRead.{SamplesRead}
-use Rattle.strip_format.specs.Format.{figures, gap}
+use Rattle.strip_format.specs.Format.{Version, figures, gap}
 use Rattle.strip_lines.specs.Lines.{longest, recordLine}
 use Rattle.strip_lines.specs.Calls.{recordRefusal}
 use Rattle.strip_lines.specs.Laws.Ends.{record-line-fits, refusal-line-fits}
-use Rattle.strip_reader.specs.Reader.{Handed, more, head, entry, end, refused}
+use Rattle.strip_reader.specs.Reader.{Handed, more, head, entry, end, refused, fed, finished}
 use Rattle.strip_run.specs.Lines.{Shown, after, unchanged, refusedAt, begunWith, begun, silence, lined, publishedWith, published, answered, framedWith, framed, shown, told}
+use Rattle.strip_run.specs.Run.{ran, ended, taken, takenOf}
 use Rattle.strip_run.specs.declared.Desk.{Desk}
+use Rattle.strip_run.specs.declared.Run.{Run}
+use Rattle.strip_run.specs.declared.Taken.{Taken}
 
 -- what is printed has room
 abbrev Roomy : Shown → Type 0
@@ -76,3 +81,32 @@ shown-most d (refused reply) = refused-most d reply
 pub told-most : (d : Desk) (h : Handed) → length (told d h .line) ≤ longest
 unfolding told
 told-most d h = either (d .more) (shown d h) (unchanged d) (shown-most d h) (none d)
+
+-- ---- what a block prints
+ran-most : (v : Version) (r : Run) (bytes : List ℕ) → length (ran v r bytes .lines) ≤ longest * length bytes
+unfolding ran
+ran-most v r [] = omega arith
+ran-most v r (b ∷ bs) =
+    let f = fed v (r .reader) b in
+    let first = told-most (r .desk) (f .got) in
+    let rest = ran-most v (record { reader = f .reader; desk = told (r .desk) (f .got) .desk }) bs in
+    rw length-append (omega arith)
+
+ended-most : (r : Run) → length (ended r .lines) ≤ longest
+unfolding ended
+ended-most r = told-most (r .desk) (finished (r .reader))
+
+taken-most : (v : Version) (r : Run) (block : List ℕ) (space : ℕ) → length block < space / longest → length (taken v r block .lines) ≤ space
+unfolding taken
+taken-most v r [] space h = omega (arith, ended-most r)
+taken-most v r (b ∷ bs) space h = omega (arith, ran-most v r (b ∷ bs))
+
+-- What is told to be put is never more than the buffer has.
+pub taken-fits : (v : Version) (r : Run) (block : List ℕ) (space : ℕ) → takenOf v r block space .length ≤ space
+unfolding takenOf
+taken-fits v r block space = go (ltb (length block) (space / longest)) refl
+  where
+    go : (b : Bool) → ltb (length block) (space / longest) ≡ b
+        → cond {A = Taken} b (record { reply = done; run = taken v r block .run; length = length (taken v r block .lines) }) (record { reply = noRoom; run = r; length = 0 }) .length ≤ space
+    go true t = taken-most v r block space (ltb-true (length block) (space / longest) t)
+    go false t = omega arith
