@@ -162,6 +162,39 @@ for bytes in 1 2 3; do
     half "a stereo file whose size is $bytes bytes short" 3172 "" < <(loud --size $((3176 - bytes)))
 done
 
+# A strip is read in blocks of 4096 bytes: the head and 185 records fill the first.
+wav --rate 8000 --samples 14800 >"$room/185.wav"
+for records in 184 185 186 187; do
+    flat $records 80 >"$room/blocks.strip"
+    run "$room/blocks.strip" <"$room/185.wav" >"$room/got" 2>"$room/err"
+    told=""
+    [ $records -lt 185 ] && told="recording: the strip ends before the recording, which goes on with frame 185"
+    [ $records -gt 185 ] && told="recording: the recording ends before the strip, which goes on with record 186"
+    same "recording: a strip of $records records for 185 frames: what is told" "$told" "$(cat "$room/err")"
+    same_file "recording: a strip of $records records for 185 frames" <(head -c $((44 + 160 * (records < 185 ? records : 185))) "$room/185.wav") "$room/got"
+done
+
+# A read of standard input that fails on the way, since it would have to wait: it is told, once, and the frames that came
+# whole are written.
+fails() { # NAME FRAMES: the bytes that come before it are those of descriptor 3
+    python3 - "$room/480.flat" <<'FAILS' >"$room/got" 2>"$room/err"
+import os, subprocess, sys
+source, sink = os.pipe()
+os.set_blocking(source, False)
+os.write(sink, open("/dev/fd/3", "rb").read())
+subprocess.run(["tests/run-program", "recording", sys.argv[1]], stdin=source)
+FAILS
+    same "recording: $1: what is told" "recording: standard input: Resource temporarily unavailable" "$(cat "$room/err")"
+    same_file "recording: $1: what came before it" <([ "$2" = none ] || head -c $((44 + 960 * $2)) "$good") "$room/got"
+}
+fails "a read that fails in the start" none 3< <(head -c 5 "$good")
+fails "a read that fails in a chunk's head" none 3< <(head -c 40 "$good")
+fails "a read that fails in the format" none 3< <(head -c 30 "$good")
+fails "a read that fails in a chunk that is skipped" none 3< <(wav --odd-list | head -c 50)
+fails "a read that fails before the samples" 0 3< <(head -c 44 "$good")
+fails "a read that fails between two frames" 3 3< <(head -c $((44 + 2880)) "$good")
+fails "a read that fails in a frame" 3 3< <(head -c $((44 + 2900)) "$good")
+
 # Sound that is levelled, of 1, 2 and 8 channels, with a short last frame: as the ruled Rust levels it, whose digests are
 # stored.
 tests/some-recordings "$room/some"
@@ -177,7 +210,7 @@ levels "silence in gives silence out" "$room/silent.wav" "$room/480.strip" <"$ro
 
 # Two minutes of sound, 12,000 frames of 40 samples: it tells each minute, and the memory that it has used is the same
 # at the end as after a second.
-strip 12000 40 >"$room/long.strip"
+flat 12000 40 >"$room/long.strip"
 wav --rate 4000 --samples 480000 --loud 3000 >"$room/long.wav"
 used() { sed -n 's/^VmHWM:[^0-9]*\([0-9]*\) kB/\1/p' "/proc/$program/status"; }
 mkfifo "$room/in"
@@ -203,7 +236,7 @@ exec 3>&-
 wait "$program"
 same "recording: two minutes end with status 0" 0 $?
 same "recording: two minutes are told one by one" "recording: 1 min recording: 2 min" "$(paste -sd' ' "$room/err")"
-same "recording: two minutes: every byte" 960044 "$(wc -c <"$room/got")"
+same_file "recording: two minutes: every byte" "$room/long.wav" "$room/got"
 if [ -n "$before" ] && [ -n "$after" ] && [ "$after" -le $((before + 500)) ]; then
     echo "ok recording: two minutes take no more memory than a second ($before kB, $after kB)"
 else

@@ -11,13 +11,22 @@ use units::replies::DONE;
 use wav_format::samples::read_frame;
 use wav_format::samples::write_frame;
 
-// The most samples that a frame has.
+// The most samples that a channel has, and a frame.
+const CHANNEL_SAMPLES: usize = 480;
+
 const MOST_SAMPLES: usize = 3840;
 
 // A reply's number, and the chain that goes on: the one that came in, where the frame is refused.
 pub struct Levelled {
     pub reply: u32,
     pub chain: Chain,
+}
+
+// Room for the samples of a frame of one channel.
+fn quiet_channel() -> [f32; CHANNEL_SAMPLES]
+    ensures { λ r. ⌜ 480 ≡ length r ⌝ }
+{
+    [0.0; CHANNEL_SAMPLES]
 }
 
 // Room for the samples of any frame.
@@ -80,6 +89,42 @@ fn level_in(
     }
 }
 
+// Levels the bytes of a frame of few samples, n.
+fn level_few(
+    chain: Chain,
+    figures: Figures,
+    bytes: &mut [u8],
+    n: usize,
+    channels: usize,
+    samples: usize,
+) -> Levelled
+    requires { ⌜ n ≤ 480 ⌝ }
+    requires { ⌜ n ≡ roomFor channels samples ⌝ }
+    ensures { λ r. ⌜ r ≡ levelled chain figures (now (bytes .entry)) channels samples .next ⌝ }
+    ensures { λ _. ⌜ now (bytes .exit) ≡ levelled chain figures (now (bytes .entry)) channels samples .bytes ⌝ }
+{
+    let mut frame = quiet_channel();
+    level_in(chain, figures, bytes, &mut frame[..n], channels, samples)
+}
+
+// Levels the bytes of a frame of any number of samples, n.
+fn level_many(
+    chain: Chain,
+    figures: Figures,
+    bytes: &mut [u8],
+    n: usize,
+    channels: usize,
+    samples: usize,
+) -> Levelled
+    requires { ⌜ n ≤ 3840 ⌝ }
+    requires { ⌜ n ≡ roomFor channels samples ⌝ }
+    ensures { λ r. ⌜ r ≡ levelled chain figures (now (bytes .entry)) channels samples .next ⌝ }
+    ensures { λ _. ⌜ now (bytes .exit) ≡ levelled chain figures (now (bytes .entry)) channels samples .bytes ⌝ }
+{
+    let mut frame = quiet();
+    level_in(chain, figures, bytes, &mut frame[..n], channels, samples)
+}
+
 // Levels the bytes of a frame where they stand, with the figures that were metered of it. Refused with 1 where they are
 // not two for each sample of a frame of this shape, and with what the chain refuses; the bytes and the chain stay as they
 // were then.
@@ -93,7 +138,10 @@ pub fn level_bytes(
     ensures { λ r. ⌜ r ≡ levelled chain figures (now (bytes .entry)) channels samples .next ⌝ }
     ensures { λ _. ⌜ now (bytes .exit) ≡ levelled chain figures (now (bytes .entry)) channels samples .bytes ⌝ }
 {
-    let mut frame = quiet();
     let n = room_for(channels, samples);
-    level_in(chain, figures, bytes, &mut frame[..n], channels, samples)
+    if n <= CHANNEL_SAMPLES {
+        level_few(chain, figures, bytes, n, channels, samples)
+    } else {
+        level_many(chain, figures, bytes, n, channels, samples)
+    }
 }
