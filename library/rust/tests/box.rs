@@ -335,11 +335,12 @@ fn ten_thousand_refused_calls_change_no_byte() {
             }
             3 => frame[place] = wrong[random.next() % 4],
             _ => {
-                bytes_mut(&mut damaged)[random.next() % size_of::<library::Chain>()] ^= 1 + (random.next() % 255) as u8;
-                bytes_mut(&mut cracked)[random.next() % size_of::<library::Limiter>()] ^= 1 + (random.next() % 255) as u8;
-                // One that still passes its test is no case of this.
-                if read_chain(&damaged, 0xAA).0 == 0 || read_limiter(&cracked, 0xAA).0 == 0 {
-                    continue;
+                // Some byte is another one; a state that still passes its test is damaged again.
+                while read_chain(&damaged, 0xAA).0 == 0 {
+                    bytes_mut(&mut damaged)[random.next() % size_of::<library::Chain>()] ^= 1 + (random.next() % 255) as u8;
+                }
+                while read_limiter(&cracked, 0xAA).0 == 0 {
+                    bytes_mut(&mut cracked)[random.next() % size_of::<library::Limiter>()] ^= 1 + (random.next() % 255) as u8;
                 }
                 let (at, end) = (OF_LIMITER + OWN_SAMPLES, OF_LIMITER + OWN_SAMPLES + 4);
                 if bytes(&damaged)[at..end] != bytes(&chain)[at..end] {
@@ -360,6 +361,6 @@ fn ten_thousand_refused_calls_change_no_byte() {
         }
         frame[place] = sound[place];
     }
-    assert!(seen[1..].iter().all(|n| *n > 500), "{seen:?}");
+    assert!(seen[1..].iter().all(|n| *n > 1000), "{seen:?}");
     assert_eq!((bytes(&chain), bytes(&limiter), frame), (bytes(&first), bytes(&second), sound));
 }
