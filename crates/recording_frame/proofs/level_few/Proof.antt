@@ -6,8 +6,6 @@ use borrow.Author.Needs.{needs}
 use Rattle.recording_frame.proofs.level_few.Statement.{statement}
 use Rattle.recording_frame.proofs.level_few.Tie as tie
 
--- `recording_frame::level_few` meets its contract: the frame is no longer than the room for it. Assumes nothing.
-
 quiet-channel-requires : tie.Need-quiet-channel-requires
 quiet-channel-requires c κs = search needs
 

@@ -6,8 +6,6 @@ use borrow.Author.Needs.{needs}
 use Rattle.recording_frame.proofs.level_many.Statement.{statement}
 use Rattle.recording_frame.proofs.level_many.Tie as tie
 
--- `recording_frame::level_many` meets its contract: the frame is no longer than the room for it. Assumes nothing.
-
 quiet-requires : tie.Need-quiet-requires
 quiet-requires c κs = search needs
 

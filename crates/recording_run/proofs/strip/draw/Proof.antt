@@ -7,8 +7,6 @@ use Rattle.recording_run.specs.Laws.Strip.{used-within, drawn-is}
 use Rattle.recording_run.proofs.strip.draw.Statement.{statement}
 use Rattle.recording_run.proofs.strip.draw.Tie as tie
 
--- `recording_run::strip::draw` meets its contract: no more bytes are used than are filled. Assumes nothing.
-
 filled-of-requires : tie.Need-filled-of-requires
 filled-of-requires c κs = search needs
 

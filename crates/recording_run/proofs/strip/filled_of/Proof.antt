@@ -6,8 +6,6 @@ use lib.ListN.{length}
 use Rattle.recording_run.proofs.strip.filled_of.Statement.{statement}
 use Rattle.recording_run.proofs.strip.filled_of.Tie as tie
 
--- `recording_run::strip::filled_of` meets its contract. Assumes nothing.
-
 returns : tie.Need-returns
 returns c = ((omega arith, sym (length-take-le _ _ (omega arith))), refl)
 

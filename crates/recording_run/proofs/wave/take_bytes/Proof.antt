@@ -4,8 +4,6 @@ use Rattle.recording_run.specs.Wave.{took, tookAt}
 use Rattle.recording_run.proofs.wave.take_bytes.Statement.{statement}
 use Rattle.recording_run.proofs.wave.take_bytes.Tie as tie
 
--- `recording_run::wave::take_bytes` meets its contract. Assumes nothing.
-
 enum-told : tie.Need-enum-told
 enum-told c = search needs
 

@@ -3,8 +3,6 @@ use borrow.Author.Needs.{needs}
 use Rattle.recording_run.proofs.wave.wanted_bytes.Statement.{statement}
 use Rattle.recording_run.proofs.wave.wanted_bytes.Tie as tie
 
--- `recording_run::wave::wanted_bytes` meets its contract. Assumes nothing.
-
 enum-told : tie.Need-enum-told
 enum-told c = search needs
 
