@@ -1,17 +1,11 @@
--- What a caller in another language keeps of a limiter and of a chain: numbers in the place of flags, numbers of 32 bits where the parts have 64, and all
--- else as it is. Definitions only.
+-- What a caller in another language keeps of a limiter and of a chain: numbers in the place of flags, samples in 32 bits, and all else as it is. Definitions
+-- only.
 use mathlib.Core.Bool.{Bool, _&&_, cond}
 use Prim.Native.Nat.{ℕ, _%_}
 use lib.Dec.{eqb, leb}
-use Rattle.saturation_protector_buffer.specs.declared.Ring.{Ring}
-use Rattle.saturation_protector.specs.declared.Peaks.{Peaks}
-use Rattle.saturation_protector.specs.declared.Protector.{Protector}
 use Rattle.fixed_digital_level_estimator.specs.declared.Estimator.{Estimator}
 use Rattle.limiter.specs.declared.Limiter.{Limiter}
 use Rattle.chain.specs.declared.Chain.{Chain}
-use Rattle.kept.specs.declared.states.KeptRing.{KeptRing}
-use Rattle.kept.specs.declared.states.KeptPeaks.{KeptPeaks}
-use Rattle.kept.specs.declared.states.KeptProtector.{KeptProtector}
 use Rattle.kept.specs.declared.states.KeptEnvelope.{KeptEnvelope}
 use Rattle.kept.specs.declared.states.KeptLimiter.{KeptLimiter}
 use Rattle.kept.specs.declared.states.KeptChain.{KeptChain}
@@ -29,46 +23,6 @@ numberOf b = cond b 1 0
 -- ---- a number of 64 bits is kept in 32: its last ones, which are the number itself where it is below 2 ^ 32
 unfoldable pub narrow : ℕ → ℕ
 narrow n = n % 4294967296
-
--- ---- the headroom
-unfoldable pub ringOf : KeptRing → Ring
-ringOf k = record { stored = k .stored; place = k .place; size = k .size }
-
-unfoldable pub keptRing : Ring → KeptRing
-unfolding narrow
-keptRing r = record { stored = r .stored; place = narrow (r .place); size = narrow (r .size) }
-
-unfoldable pub peaksOf : KeptPeaks → Peaks
-unfolding ringOf
-peaksOf k = record { headroom = k .headroom; ring = ringOf (k .ring); largest = k .largest; elapsed = k .elapsed }
-
-unfoldable pub keptPeaks : Peaks → KeptPeaks
-unfolding keptRing
-keptPeaks s = record { headroom = s .headroom; ring = keptRing (s .ring); largest = s .largest; elapsed = s .elapsed }
-
-unfoldable pub protectorOf : KeptProtector → Protector
-unfolding peaksOf
-protectorOf k =
-    record {
-      initial = k .initial;
-      threshold = k .threshold;
-      count = k .count;
-      headroom = k .headroom;
-      preliminary = peaksOf (k .preliminary);
-      reliable = peaksOf (k .reliable);
-    }
-
-unfoldable pub keptProtector : Protector → KeptProtector
-unfolding keptPeaks
-keptProtector s =
-    record {
-      initial = s .initial;
-      threshold = s .threshold;
-      count = s .count;
-      headroom = s .headroom;
-      preliminary = keptPeaks (s .preliminary);
-      reliable = keptPeaks (s .reliable);
-    }
 
 -- ---- the limiter
 unfoldable pub envelopeOf : KeptEnvelope → Estimator
@@ -124,7 +78,7 @@ unfolding isFlag soundLimiter
 soundChain k = isFlag (k .estimator .confident) && isFlag (k .controller .applier .clip) && soundLimiter (k .limiter)
 
 unfoldable pub chainOf : KeptChain → Chain
-unfolding flagOf protectorOf limiterOf
+unfolding flagOf limiterOf
 chainOf k =
     record {
       estimator =
@@ -138,7 +92,7 @@ chainOf k =
             confident = flagOf (k .estimator .confident);
             count = k .estimator .count;
           };
-      protector = protectorOf (k .protector);
+      protector = k .protector;
       controller =
           record {
             applier =
@@ -159,7 +113,7 @@ chainOf k =
     }
 
 unfoldable pub keptChain : Chain → KeptChain
-unfolding numberOf keptProtector keptLimiter
+unfolding numberOf keptLimiter
 keptChain c =
     record {
       estimator =
@@ -173,7 +127,7 @@ keptChain c =
             confident = numberOf (c .estimator .confident);
             count = c .estimator .count;
           };
-      protector = keptProtector (c .protector);
+      protector = c .protector;
       controller =
           record {
             applier =

@@ -1,18 +1,16 @@
 // What a caller in another language keeps: the states of the chain and of the limiter, in C's layout and without a
 // hole between the fields, so that every byte of the struct belongs to a field. Each flag is a number, 0 or 1; a
-// number that is neither is no state, and its test says so. A place, a size or a number of samples, which the parts
-// keep in 64 bits, is kept in 32; a state that passes has none that needs more.
+// number that is neither is no state, and its test says so. A number of samples, which the limiter keeps in 64 bits,
+// is kept in 32; a state that passes has none that needs more.
 
 ghost use mathlib.Core.Path.{_≡_};
-ghost use Rattle.kept.specs.States.{isFlag, flagOf, numberOf, narrow, ringOf, keptRing, peaksOf, keptPeaks, protectorOf, keptProtector, envelopeOf, keptEnvelope, soundLimiter, limiterOf, keptLimiter, soundChain, chainOf, keptChain};
+ghost use Rattle.kept.specs.States.{isFlag, flagOf, numberOf, narrow, envelopeOf, keptEnvelope, soundLimiter, limiterOf, keptLimiter, soundChain, chainOf, keptChain};
 use adaptive_digital_gain_controller::Controller;
 use chain::Chain;
 use gain_applier::Applier;
 use interpolated_gain_curve::Curve;
 use limiter::Limiter;
-use saturation_protector::Peaks;
 use saturation_protector::Protector;
-use saturation_protector_buffer::Ring;
 use speech_level_estimator::Average;
 use speech_level_estimator::Estimator;
 use units::settings::Settings;
@@ -28,34 +26,6 @@ pub struct KeptLevel {
     pub level: f32,
     pub confident: u32,
     pub count: u32,
-}
-
-// A ring of peaks: saturation_protector_buffer's state.
-#[repr(C)]
-pub struct KeptRing {
-    pub stored: [f32; 4],
-    pub place: u32,
-    pub size: u32,
-}
-
-// The recent peaks: one of saturation_protector's two states.
-#[repr(C)]
-pub struct KeptPeaks {
-    pub headroom: f32,
-    pub ring: KeptRing,
-    pub largest: f32,
-    pub elapsed: u32,
-}
-
-// The headroom: saturation_protector's state.
-#[repr(C)]
-pub struct KeptProtector {
-    pub initial: f32,
-    pub threshold: u32,
-    pub count: u32,
-    pub headroom: f32,
-    pub preliminary: KeptPeaks,
-    pub reliable: KeptPeaks,
 }
 
 // The gain on its way: gain_applier's state.
@@ -111,7 +81,7 @@ pub struct KeptLimiter {
 #[repr(C)]
 pub struct KeptChain {
     pub estimator: KeptLevel,
-    pub protector: KeptProtector,
+    pub protector: Protector,
     pub controller: KeptController,
     pub limiter: KeptLimiter,
 }
@@ -142,100 +112,6 @@ fn narrow(n: usize) -> u32
     ensures { λ r. ⌜ r ≡ narrow n ⌝ }
 {
     (n % 4294967296) as u32
-}
-
-impl KeptRing {
-    // The ring that is kept.
-    fn ring(self) -> Ring
-        ensures { λ r. ⌜ r ≡ ringOf self ⌝ }
-    {
-        let stored = self.stored;
-        Ring {
-            stored,
-            place: self.place as usize,
-            size: self.size as usize,
-        }
-    }
-
-    // What is kept of a ring.
-    fn of(ring: Ring) -> KeptRing
-        ensures { λ r. ⌜ r ≡ keptRing ring ⌝ }
-    {
-        let stored = ring.stored;
-        KeptRing {
-            stored,
-            place: narrow(ring.place),
-            size: narrow(ring.size),
-        }
-    }
-}
-
-impl KeptPeaks {
-    // The peaks that are kept.
-    fn peaks(self) -> Peaks
-        ensures { λ r. ⌜ r ≡ peaksOf self ⌝ }
-    {
-        let kept = self.ring;
-        let ring = kept.ring();
-        Peaks {
-            headroom: self.headroom,
-            ring,
-            largest: self.largest,
-            elapsed: self.elapsed,
-        }
-    }
-
-    // What is kept of peaks.
-    fn of(peaks: Peaks) -> KeptPeaks
-        ensures { λ r. ⌜ r ≡ keptPeaks peaks ⌝ }
-    {
-        let whole = peaks.ring;
-        let ring = KeptRing::of(whole);
-        KeptPeaks {
-            headroom: peaks.headroom,
-            ring,
-            largest: peaks.largest,
-            elapsed: peaks.elapsed,
-        }
-    }
-}
-
-impl KeptProtector {
-    // The protector that is kept.
-    fn protector(self) -> Protector
-        ensures { λ r. ⌜ r ≡ protectorOf self ⌝ }
-    {
-        let first = self.preliminary;
-        let second = self.reliable;
-        let preliminary = first.peaks();
-        let reliable = second.peaks();
-        Protector {
-            initial: self.initial,
-            threshold: self.threshold,
-            count: self.count,
-            headroom: self.headroom,
-            preliminary,
-            reliable,
-        }
-    }
-
-    // What is kept of a protector.
-    fn of(protector: Protector) -> KeptProtector
-        ensures { λ r. ⌜ r ≡ keptProtector protector ⌝ }
-    {
-        let first = protector.preliminary;
-        let second = protector.reliable;
-        let preliminary = KeptPeaks::of(first);
-        let reliable = KeptPeaks::of(second);
-        KeptProtector {
-            initial: protector.initial,
-            threshold: protector.threshold,
-            count: protector.count,
-            headroom: protector.headroom,
-            preliminary,
-            reliable,
-        }
-    }
 }
 
 impl KeptEnvelope {
@@ -339,8 +215,7 @@ impl KeptChain {
         let preliminary = level.preliminary;
         let reliable = level.reliable;
         let confident = flag_of(level.confident);
-        let safe = self.protector;
-        let protector = safe.protector();
+        let protector = self.protector;
         let gain = self.controller;
         let set = gain.settings;
         let applier = gain.applier;
@@ -386,8 +261,7 @@ impl KeptChain {
         let preliminary = level.preliminary;
         let reliable = level.reliable;
         let confident = number_of(level.confident);
-        let safe = chain.protector;
-        let protector = KeptProtector::of(safe);
+        let protector = chain.protector;
         let gain = chain.controller;
         let set = gain.settings;
         let applier = gain.applier;

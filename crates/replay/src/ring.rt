@@ -69,8 +69,8 @@ pub(crate) fn read(all: &Desk, from: usize) -> Ring {
             figures::float(all, from, 4),
             figures::float(all, from, 5),
         ],
-        place: figures::count(all, from, 0),
-        size: figures::count(all, from, 1),
+        place: figures::word(all, from, 0),
+        size: figures::word(all, from, 1),
     }
 }
 
@@ -93,7 +93,7 @@ fn case(front: Front) -> u32 {
 // Stores the figures of a ring's state, from a place on.
 pub(crate) fn put(desk: &mut Desk, from: usize, ring: Ring) {
     let stored = ring.stored;
-    let first = [numbers::narrow(ring.place), numbers::narrow(ring.size)];
+    let first = [ring.place, ring.size];
     figures::put(desk, from, &first);
     figures::put_floats(desk, wrapping_add_usize(from, STORED), &stored);
 }

@@ -16,12 +16,13 @@ pub const CAPACITY: usize = 4;
 // How many slots its storage has: one for each peak.
 pub const STORAGE: usize = CAPACITY;
 
-// The storage, the place where the next peak goes (the Rust's `next`) and how many peaks there are.
+// The storage, the place where the next peak goes (the Rust's `next`) and how many peaks there are. Both are
+// numbers of 32 bits, so that a struct that holds a ring has no hole beside it in C's layout.
 #[repr(C)]
 pub struct Ring {
     pub stored: [f32; STORAGE],
-    pub place: usize,
-    pub size: usize,
+    pub place: u32,
+    pub size: u32,
 }
 
 // The oldest peak, if there is one: the Rust's `Option<f32>`.
@@ -78,7 +79,7 @@ impl Ring {
         ensures { λ r. ⌜ r ≡ passes self ⌝ }
     {
         let stored = self.stored;
-        (self.place < CAPACITY) & (self.size <= CAPACITY) & are_finite(stored)
+        ((self.place as usize) < CAPACITY) & (self.size as usize <= CAPACITY) & are_finite(stored)
     }
 
     // The ring with one peak more, at the cost of the oldest where it is full. A peak that is not
@@ -105,12 +106,12 @@ impl Ring {
         ensures { λ r. ⌜ r ≡ push self v ⌝ }
     {
         let mut stored = self.stored;
-        let place = self.place;
+        let place = self.place as usize;
         let size = self.size;
         stored[place] = v;
-        let after = place + 1;
-        let next = floats::pick_usize(after == CAPACITY, 0, after);
-        let more = floats::pick_usize(size < CAPACITY, size + 1, size);
+        let after = self.place + 1;
+        let next = floats::pick_u32(after as usize == CAPACITY, 0, after);
+        let more = floats::pick_u32((size as usize) < CAPACITY, size + 1, size);
         Ring {
             stored,
             place: next,
@@ -155,7 +156,7 @@ impl Ring {
     fn front_index(self) -> usize
         ensures { λ r. ⌜ r ≡ start capacity (self .place) (self .size) ⌝ }
     {
-        floats::pick_usize(self.size == CAPACITY, self.place, 0)
+        floats::pick_usize(self.size as usize == CAPACITY, self.place as usize, 0)
     }
 
     // How many peaks there are. A ring that fails its test is refused with 4.
@@ -165,7 +166,7 @@ impl Ring {
         let ok = self.passes();
         Counted {
             reply: refusal(true, ok, true, true),
-            size: floats::pick_usize(ok, self.size, 0),
+            size: floats::pick_usize(ok, self.size as usize, 0),
         }
     }
 
@@ -177,8 +178,8 @@ impl Ring {
         let stored = self.stored;
         let ok = self.passes();
         let reply = refusal(true, ok, true, true);
-        let place = floats::pick_usize(ok, 0, self.place);
-        let size = floats::pick_usize(ok, 0, self.size);
+        let place = floats::pick_u32(ok, 0, self.place);
+        let size = floats::pick_u32(ok, 0, self.size);
         let ring = Ring {
             stored,
             place,
@@ -230,8 +231,8 @@ fn same_items(a: Ring, b: Ring) -> bool
     let ys = b.stored;
     let from = a.front_index();
     let other = b.front_index();
-    let size = a.size;
-    if size == b.size {
+    let size = a.size as usize;
+    if size == b.size as usize {
         same_from(xs, from, ys, other, size)
     } else {
         false

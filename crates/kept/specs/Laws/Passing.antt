@@ -22,9 +22,6 @@ use Rattle.gain_applier.specs.Range.{Held}
 use Rattle.speech_level_estimator.specs.Estimator as Level
 use Rattle.fixed_digital_level_estimator.specs.Estimator as Envelope
 use Rattle.adaptive_digital_gain_controller.specs.Range.{HeldSettings}
-use Rattle.saturation_protector_buffer.specs.Ring as Rings
-use Rattle.saturation_protector.specs.Peaks as Peaking
-use Rattle.saturation_protector.specs.Protector as Headroom
 use Rattle.limiter.specs.Limiter as Limiting
 use Rattle.limiter.specs.Scale as Scale
 use Rattle.limiter.specs.Laws.States as LimiterStates
@@ -37,7 +34,7 @@ use Rattle.chain.specs.Laws.Calls as ChainCalls
 use Rattle.chain.specs.declared.Chain.{Chain}
 use Rattle.kept.specs.States.{envelopeOf, soundLimiter, limiterOf, keptLimiter, soundChain, chainOf, keptChain}
 use Rattle.kept.specs.Calls.{limiterPasses, limiterMade, LimiterStepped, limiterStepped, chainPasses, chainMade, ChainStepped, chainStepped}
-use Rattle.kept.specs.Laws.States.{SmallEnvelope, limiter-small-kept, limiter-kept, kept-limiter-sound, SmallChain, chain-small-kept, chain-kept, kept-chain-sound}
+use Rattle.kept.specs.Laws.States.{SmallEnvelope, limiter-small-kept, limiter-kept, kept-limiter-sound, chain-small-kept, chain-kept, kept-chain-sound}
 use Rattle.kept.specs.Laws.Calls.{keptStep, limiter-inside, keptCall, chain-inside}
 use Rattle.kept.specs.declared.states.KeptLimiter.{KeptLimiter}
 use Rattle.kept.specs.declared.states.KeptChain.{KeptChain}
@@ -197,13 +194,9 @@ nothing-fails : Chains.passes Chaining.nothing ≡ false
 unfolding Chains.passes Chaining.nothing Level.passes Level.nothing
 nothing-fails = rw unset-refused
 
-nothing-small : SmallChain Chaining.nothing
-unfolding Chaining.nothing Headroom.nothing Peaking.none Rings.emptyOf Limiting.none Envelope.none
-nothing-small =
-    record {
-      protector = record { preliminary = record { place = lit< tt; size = lit< tt }; reliable = record { place = lit< tt; size = lit< tt } };
-      limiter = record { samples = lit< tt; part = lit< tt };
-    }
+nothing-small : SmallEnvelope (Chaining.nothing .limiter .estimator)
+unfolding Chaining.nothing Limiting.none Envelope.none
+nothing-small = record { samples = lit< tt; part = lit< tt }
 
 -- and what is kept of it
 kept-nothing-fails : chainPasses (keptChain Chaining.nothing) ≡ false

@@ -6,32 +6,22 @@ use mathlib.Core.List.{[], _∷_}
 use Prim.Native.Nat.{ℕ, _≤_, _<_, _/_, _%_}
 use native.Mathlib.Nat.{mod-eq-of-lt}
 use native.Mathlib.Omega.{arith}
-use borrow.Author.Tests.{leb-true, ltb-true, eqb-true, eqb-false}
+use borrow.Author.Tests.{leb-true, eqb-true, eqb-false}
 use lib.Dec.{eqb, leb}
 use lib.Ieee.{eq}
 use Rattle.lists.specs.Tests.{each-of, _and_}
-use Rattle.units.specs.Figures.{level, headroom, curveLevel}
-use Rattle.units.specs.Settings.{threshold}
+use Rattle.units.specs.Figures.{curveLevel}
 use Rattle.frames.specs.Shape.{isSamples}
 use Rattle.speech_level_estimator.specs.Estimator as Level
 use Rattle.adaptive_digital_gain_controller.specs.Controller as Gain
-use Rattle.saturation_protector_buffer.specs.Ring as Rings
-use Rattle.saturation_protector_buffer.specs.Rings.{fitsRing}
-use Rattle.saturation_protector_buffer.specs.declared.Ring.{Ring}
-use Rattle.saturation_protector.specs.Peaks as Peaking
 use Rattle.saturation_protector.specs.Protector as Headroom
-use Rattle.saturation_protector.specs.declared.Peaks.{Peaks}
-use Rattle.saturation_protector.specs.declared.Protector.{Protector}
 use Rattle.fixed_digital_level_estimator.specs.Estimator as Envelopes
 use Rattle.fixed_digital_level_estimator.specs.declared.Estimator.{Estimator}
 use Rattle.limiter.specs.Limiter as Limiting
 use Rattle.limiter.specs.declared.Limiter.{Limiter}
 use Rattle.chain.specs.Chain as Chains
 use Rattle.chain.specs.declared.Chain.{Chain}
-use Rattle.kept.specs.States.{isFlag, flagOf, numberOf, narrow, ringOf, keptRing, peaksOf, keptPeaks, protectorOf, keptProtector, envelopeOf, keptEnvelope, soundLimiter, limiterOf, keptLimiter, soundChain, chainOf, keptChain}
-use Rattle.kept.specs.declared.states.KeptRing.{KeptRing}
-use Rattle.kept.specs.declared.states.KeptPeaks.{KeptPeaks}
-use Rattle.kept.specs.declared.states.KeptProtector.{KeptProtector}
+use Rattle.kept.specs.States.{isFlag, flagOf, numberOf, narrow, envelopeOf, keptEnvelope, soundLimiter, limiterOf, keptLimiter, soundChain, chainOf, keptChain}
 use Rattle.kept.specs.declared.states.KeptEnvelope.{KeptEnvelope}
 use Rattle.kept.specs.declared.states.KeptLimiter.{KeptLimiter}
 use Rattle.kept.specs.declared.states.KeptChain.{KeptChain}
@@ -68,51 +58,6 @@ Small n = n < 4294967296
 pub narrow-small : (n : ℕ) → Small n → narrow n ≡ n
 unfolding narrow
 narrow-small n h = mod-eq-of-lt h
-
--- ---- the headroom
-pub record SmallRing (r : Ring) : Type 0 where
-  pub place : Small (r .place)
-  pub size : Small (r .size)
-
--- The numbers of a ring that passes are small: it has so few places.
-ring-small : (r : Ring) → Rings.passes r ≡ true → SmallRing r
-unfolding Rings.passesOf fitsRing
-ring-small r h =
-    let p = each-of (_ ∷ _ ∷ _ ∷ []) h in
-    let place : r .place < Rings.capacity = ltb-true (r .place) Rings.capacity (p 0) in
-    let size : r .size ≤ Rings.capacity = leb-true (r .size) Rings.capacity (p 1) in
-    record { place = omega arith; size = omega arith }
-
-peaks-small : (s : Peaks) → Peaking.passes s ≡ true → SmallRing (s .ring)
-unfolding Peaking.passes
-peaks-small s h =
-    ring-small (s .ring) (each-of (headroom (s .headroom) ∷ Rings.passes (s .ring) ∷ Peaking.allLevels (Rings.slots (s .ring)) ∷ level (s .largest) ∷ Peaking.time (s .elapsed) ∷ []) h 1)
-
-pub record SmallProtector (s : Protector) : Type 0 where
-  pub preliminary : SmallRing (s .preliminary .ring)
-  pub reliable : SmallRing (s .reliable .ring)
-
-pub protector-small : (s : Protector) → Headroom.passes s ≡ true → SmallProtector s
-unfolding Headroom.passes
-protector-small s h =
-    let p = each-of (headroom (s .initial) ∷ threshold (s .threshold) ∷ leb (s .count) (s .threshold) ∷ headroom (s .headroom) ∷ Peaking.passes (s .preliminary) ∷ Peaking.passes (s .reliable) ∷ []) h in
-    record { preliminary = peaks-small (s .preliminary) (p 4); reliable = peaks-small (s .reliable) (p 5) }
-
-ring-kept : (r : Ring) → SmallRing r → ringOf (keptRing r) ≡ r
-unfolding ringOf keptRing
-ring-kept r h = rw (narrow-small (r .place) (h .place), narrow-small (r .size) (h .size))
-
-ring-back : (k : KeptRing) → SmallRing (ringOf k) → keptRing (ringOf k) ≡ k
-unfolding ringOf keptRing
-ring-back k h = rw (narrow-small (k .place) (h .place), narrow-small (k .size) (h .size))
-
-pub protector-kept : (s : Protector) → SmallProtector s → protectorOf (keptProtector s) ≡ s
-unfolding protectorOf keptProtector peaksOf keptPeaks
-protector-kept s h = rw (ring-kept (s .preliminary .ring) (h .preliminary), ring-kept (s .reliable .ring) (h .reliable))
-
-pub protector-back : (k : KeptProtector) → SmallProtector (protectorOf k) → keptProtector (protectorOf k) ≡ k
-unfolding protectorOf keptProtector peaksOf keptPeaks
-protector-back k h = rw (ring-back (k .preliminary .ring) (h .preliminary), ring-back (k .reliable .ring) (h .reliable))
 
 -- ---- the limiter
 pub record SmallEnvelope (e : Estimator) : Type 0 where
@@ -163,11 +108,7 @@ pub limiter-back : (k : KeptLimiter) → soundLimiter k ≡ true → Limiting.pa
 limiter-back k h p = limiter-small-back k h (limiter-small (limiterOf k) p)
 
 -- ---- the chain
-pub record SmallChain (c : Chain) : Type 0 where
-  pub protector : SmallProtector (c .protector)
-  pub limiter : SmallEnvelope (c .limiter .estimator)
-
-pub chain-small : (c : Chain) → Chains.passes c ≡ true → SmallChain c
+pub chain-small : (c : Chain) → Chains.passes c ≡ true → SmallEnvelope (c .limiter .estimator)
 unfolding Chains.passes
 chain-small c h =
     let p =
@@ -175,13 +116,12 @@ chain-small c h =
     (Level.passes (c .estimator) ∷ Headroom.passes (c .protector) ∷ Gain.passes (c .controller) ∷ Limiting.passes (c .limiter) ∷ eqb (c .estimator .threshold) (c .protector .threshold)
     ∷ eqb (c .estimator .threshold) (c .controller .threshold) ∷ Chains.alike (c .estimator .settings) (c .controller .settings) ∷ eq (c .protector .initial) Chains.initial ∷ [])
     h in
-    record { protector = protector-small (c .protector) (p 1); limiter = limiter-small (c .limiter) (p 3) }
+    limiter-small (c .limiter) (p 3)
 
 -- A chain of small numbers that is kept comes back,
-pub chain-small-kept : (c : Chain) → SmallChain c → chainOf (keptChain c) ≡ c
+pub chain-small-kept : (c : Chain) → SmallEnvelope (c .limiter .estimator) → chainOf (keptChain c) ≡ c
 unfolding chainOf keptChain
-chain-small-kept c h =
-    rw (flag-back (c .estimator .confident), flag-back (c .controller .applier .clip), protector-kept (c .protector) (h .protector), limiter-small-kept (c .limiter) (h .limiter))
+chain-small-kept c h = rw (flag-back (c .estimator .confident), flag-back (c .controller .applier .clip), limiter-small-kept (c .limiter) h)
 
 -- as one that passes does,
 pub chain-kept : (c : Chain) → Chains.passes c ≡ true → chainOf (keptChain c) ≡ c
@@ -204,17 +144,11 @@ flags k h =
     let p = each-of (_ ∷ _ ∷ _ ∷ []) h in
     record { confident = p 0; clip = p 1; limiter = p 2 }
 
-chain-small-back : (k : KeptChain) → soundChain k ≡ true → SmallChain (chainOf k) → keptChain (chainOf k) ≡ k
+small-back : (k : KeptChain) → Flags k → SmallEnvelope (chainOf k .limiter .estimator) → keptChain (chainOf k) ≡ k
 unfolding chainOf keptChain
-chain-small-back k h s =
-    let f = flags k h in
-    rw (
-      number-back (k .estimator .confident) (f .confident),
-      number-back (k .controller .applier .clip) (f .clip),
-      protector-back (k .protector) (s .protector),
-      limiter-small-back (k .limiter) (f .limiter) (s .limiter),
-    )
+small-back k f s =
+    rw (number-back (k .estimator .confident) (f .confident), number-back (k .controller .applier .clip) (f .clip), limiter-small-back (k .limiter) (f .limiter) s)
 
 -- What is kept of the chain inside is what came in, where that is sound and the chain inside passes.
 pub chain-back : (k : KeptChain) → soundChain k ≡ true → Chains.passes (chainOf k) ≡ true → keptChain (chainOf k) ≡ k
-chain-back k h p = chain-small-back k h (chain-small (chainOf k) p)
+chain-back k h p = small-back k (flags k h) (chain-small (chainOf k) p)

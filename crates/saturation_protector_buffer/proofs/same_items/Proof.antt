@@ -18,23 +18,29 @@ front-index-requires c κs = search needs
 front-index-requires-2 : tie.Need-front-index-requires-2
 front-index-requires-2 c κs = search needs
 
+cast-size : tie.Need-cast-size
+cast-size c = search needs
+
+cast-if1 : tie.Need-cast-if1
+cast-if1 c = search needs
+
 same-from-requires : tie.Need-same-from-requires
 same-from-requires c κs =
-    let start = c .before .before .before .before .before .before in
+    let start = c .before .before .before .before .before .before .before in
     let a = start .args .a in
     let b = start .args .b in (
-      rw (c .before .before .before .front-index .ensures) (start-inside capacity (a .place) (a .size) (start .pre .0 .place) (start .pre .0 .size)),
-      rw (c .before .before .front-index2 .ensures) (start-inside capacity (b .place) (b .size) (start .pre .1 .place) (start .pre .1 .size)),
+      rw (c .before .before .before .before .front-index .ensures) (start-inside capacity (a .place) (a .size) (start .pre .0 .place) (start .pre .0 .size)),
+      rw (c .before .before .before .front-index2 .ensures) (start-inside capacity (b .place) (b .size) (start .pre .1 .place) (start .pre .1 .size)),
       start .pre .0 .size,
     )
 
 returns : tie.Need-returns
 unfolding itemsOf round
 returns c =
-    let start = c .before .before .before .before .before .before .before in
+    let start = c .before .before .before .before .before .before .before .before in
     let a = start .args .a in
     let b = start .args .b in
-    let two = c .before .before .before in
+    let two = c .before .before .before .before in
     c .same-from .ensures
     ∙ ap₂ (λ (i j : ℕ). sameItems (round capacity (a .stored) i (a .size)) (round capacity (b .stored) j (a .size))) (two .before .front-index .ensures) (two .front-index2 .ensures)
     ∙ ap (λ (k : ℕ). sameItems (items a) (round capacity (b .stored) (front capacity (b .place) (b .size)) k)) (c .before .if1 .taken)
@@ -42,7 +48,7 @@ returns c =
 returns-2 : tie.Need-returns-2
 unfolding itemsOf
 returns-2 c =
-    let start = c .before .before .before .before .before .before in
+    let start = c .before .before .before .before .before .before .before in
     let a = start .args .a in
     let b = start .args .b in
     let slots-a : length (a .stored) ≡ storage = search needs in
@@ -52,4 +58,4 @@ returns-2 c =
     sym (not-as-many (items a) (items b) (λ e. c .if1 .left (sym as-many-a ∙ e ∙ as-many-b)))
 
 pub same-items-spec : {M : Type 1} → statement M
-same-items-spec = tie.close (tie.spec front-index-requires front-index-requires-2 same-from-requires returns returns-2)
+same-items-spec = tie.close (tie.spec front-index-requires front-index-requires-2 cast-size cast-if1 same-from-requires returns returns-2)

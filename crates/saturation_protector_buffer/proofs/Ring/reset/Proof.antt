@@ -14,11 +14,11 @@ passes-requires c κs = search needs
 refusal-requires : tie.Need-refusal-requires
 refusal-requires c κs = search needs
 
-pick-usize-requires : tie.Need-pick-usize-requires
-pick-usize-requires c κs = search needs
+pick-u32-requires : tie.Need-pick-u32-requires
+pick-u32-requires c κs = search needs
 
-pick-usize-requires-2 : tie.Need-pick-usize-requires-2
-pick-usize-requires-2 c κs = search needs
+pick-u32-requires-2 : tie.Need-pick-u32-requires-2
+pick-u32-requires-2 c κs = search needs
 
 -- a ring whose place and size are chosen is the chosen ring
 chosen : (b : Bool) (r : Ring) → cond b (reset r) r ≡ record { stored = r .stored; place = cond b 0 (r .place); size = cond b 0 (r .size) }
@@ -31,7 +31,7 @@ unfolding forgottenOf
 returns c =
     let tests = c .before .before in
     let r = tests .before .before .before .args .self in
-    rw (c .pick-usize2 .ensures, c .before .pick-usize .ensures, tests .refusal .ensures, tests .before .passes .ensures, chosen (passes r) r)
+    rw (c .pick-u322 .ensures, c .before .pick-u32 .ensures, tests .refusal .ensures, tests .before .passes .ensures, chosen (passes r) r)
 
 pub reset-spec : {M : Type 1} → statement M
-reset-spec = tie.close (tie.spec passes-requires refusal-requires pick-usize-requires pick-usize-requires-2 returns)
+reset-spec = tie.close (tie.spec passes-requires refusal-requires pick-u32-requires pick-u32-requires-2 returns)

@@ -10,12 +10,15 @@ passes-requires c κs = search needs
 refusal-requires : tie.Need-refusal-requires
 refusal-requires c κs = search needs
 
+cast-pick-usize : tie.Need-cast-pick-usize
+cast-pick-usize c = search needs
+
 pick-usize-requires : tie.Need-pick-usize-requires
 pick-usize-requires c κs = search needs
 
 returns : tie.Need-returns
 unfolding sizedOf
-returns c = rw (c .pick-usize .ensures, c .before .refusal .ensures, c .before .before .passes .ensures)
+returns c = rw (c .pick-usize .ensures, c .before .before .refusal .ensures, c .before .before .before .passes .ensures)
 
 pub size-spec : {M : Type 1} → statement M
-size-spec = tie.close (tie.spec passes-requires refusal-requires pick-usize-requires returns)
+size-spec = tie.close (tie.spec passes-requires refusal-requires cast-pick-usize pick-usize-requires returns)

@@ -4,6 +4,9 @@ use Rattle.saturation_protector_buffer.specs.Ring.{pushOf}
 use Rattle.saturation_protector_buffer.proofs.Ring.store.Statement.{statement}
 use Rattle.saturation_protector_buffer.proofs.Ring.store.Tie as tie
 
+cast-place : tie.Need-cast-place
+cast-place c = search needs
+
 mul-stored : tie.Need-mul-stored
 mul-stored c = search needs
 
@@ -13,27 +16,36 @@ array-write-stored c = search needs
 add-after : tie.Need-add-after
 add-after c = search needs
 
-pick-usize-requires : tie.Need-pick-usize-requires
-pick-usize-requires c κs = search needs
+cast-pick-u32 : tie.Need-cast-pick-u32
+cast-pick-u32 c = search needs
 
-add-pick-usize : tie.Need-add-pick-usize
-add-pick-usize c = search needs
+pick-u32-requires : tie.Need-pick-u32-requires
+pick-u32-requires c κs = search needs
 
-pick-usize-requires-2 : tie.Need-pick-usize-requires-2
-pick-usize-requires-2 c κs = search needs
+cast-pick-u32-2 : tie.Need-cast-pick-u32-2
+cast-pick-u32-2 c = search needs
+
+add-pick-u32 : tie.Need-add-pick-u32
+add-pick-u32 c = search needs
+
+pick-u32-requires-2 : tie.Need-pick-u32-requires-2
+pick-u32-requires-2 c κs = search needs
 
 returns : tie.Need-returns
 unfolding pushOf
-returns c = rw (c .pick-usize2 .ensures, c .before .pick-usize .ensures)
+returns c = rw (c .pick-u322 .ensures, c .before .pick-u32 .ensures)
 
 pub store-spec : {M : Type 1} → statement M
 store-spec =
     tie.close
     (tie.spec
+    cast-place
     mul-stored
     array-write-stored
     add-after
-    pick-usize-requires
-    add-pick-usize
-    pick-usize-requires-2
+    cast-pick-u32
+    pick-u32-requires
+    cast-pick-u32-2
+    add-pick-u32
+    pick-u32-requires-2
     returns)
