@@ -3,17 +3,80 @@
 # emulator.
 cd "$(dirname "$0")/.." || exit 1
 . tests/check.bash
-room=$(mktemp -d)
+room=$(mktemp -d) || exit 1
 trap 'rm -rf "$room"' EXIT
+unset MURZICANU_LIB MURZICANU_STRIP MURZICANU_LINES
+machine=$(uname -m)
 rm -rf target/library
-if library/build >"$room/said" 2>&1; then
+if library/build >"$room/told" 2>"$room/said"; then
     echo "ok the library is proved, and its examples and tests are built"
 else
     cat "$room/said"
     echo "not ok the library is proved, and its examples and tests are built"
     exit 1
 fi
-library/build --run test-c examples/service.strip examples/service.lines
+crates=$(. tools/proving.bash && crates_behind murzicanu)
+count=$(echo "$crates" | wc -l)
+same "library/build tells each crate that is proved, with the count" "$(echo "$crates" | sort)" \
+    "$(sed -n "s/^proved [0-9]* of $count: //p" "$room/said" | sort)"
+names="level-c test-c level-rust limit-rust test-rust test-crate"
+same "library/build tells at its end where the archive and the programs are" \
+    "The archive is $PWD/target/staticlib/libmurzicanu.a. The programs are in $PWD/target/library: $names" "$(tail -n 1 "$room/said")"
+same "and there they are" "" "$([ -s target/staticlib/libmurzicanu.a ] || echo none; for name in $names; do [ -x "target/library/$name" ] || echo "$name"; done)"
+same "and nothing of it is told on standard output" "" "$(cat "$room/told")"
+library/build --run test-c
+(cd examples && ../library/build --run test-c service.strip service.lines) >"$room/said" 2>&1
+same "test-c takes a strip and its lines, from the folder it is called in" "0 0" "$? $(grep -c '^not ok' "$room/said")"
+tr 0-4 5-9 <examples/service.lines >"$room/other.lines"
+library/build --run test-c examples/service.strip "$room/other.lines" >"$room/said" 2>&1
+same "and with other lines it fails" "1 1" "$? $(grep -c '^not ok' "$room/said")"
+
+# The words are judged before anything is built: a script stands in for rt, in a copy where nothing is.
+mkdir -p "$room/copy" "$room/bin"
+cp -r library tools examples crates.txt "$room/copy"
+cat >"$room/bin/rt" <<END
+#!/usr/bin/env bash
+trap '' INT TERM
+echo \$\$ >>"$room/asked"
+echo "rt: lists proved (0 s)"
+echo "rt: rounding NOT PROVED (exit 1, 0 s)"
+if [ -e "$room/hangs" ]; then
+    sleep 1000 &
+    echo \$! >>"$room/asked"
+    wait
+fi
+exit 1
+END
+chmod +x "$room/bin/rt"
+words() { # WORD..
+    rm -f "$room/asked"
+    PATH=$room/bin:$PATH "$room/copy/library/build" "$@" >"$room/said" 2>&1
+    echo "$? $([ ! -e "$room/asked" ] || echo "rt was called")"
+}
+said() { tr '\n' ' ' <"$room/said" | sed 's/^library.build: //'; }
+same "--run without a name says which there are" "2  --run wants the name of a program: $names " "$(words --run) $(said)"
+same "so does --run with a name that is none" "2  there is no program 'level': $names " "$(words --run level) $(said)"
+same "an example takes no words" "2  level-c takes no words " "$(words --run level-c loud) $(said)"
+same "test-c takes two words or none" "2  test-c takes a strip and the lines that are due for it, or no words " "$(words --run test-c "$room/other.lines") $(said)"
+same "a file that is missing is told" "2  there is no file '$room/none' to read " "$(words --run test-c "$room/other.lines" "$room/none") $(said)"
+same "so is one that a variable names" "2  there is no file '$room/none' to read " "$(MURZICANU_STRIP=$room/none words --run test-rust) $(said)"
+same "any other word shows how it is called" "2  yes" "$(words --help) $(grep -q 'library/build --run NAME' "$room/said" && echo yes)"
+same "a library that is not proved is told, with the file that says why" "1 rt was called yes
+proved 1 of $count: lists" "$(words) $(tail -n 1 "$room/said" | grep -q "not proved; $room/copy/target/library/log" && echo yes)
+$(grep '^proved' "$room/said")"
+: >"$room/hangs"
+rm -f "$room/asked"
+PATH=$room/bin:$PATH "$room/copy/library/build" >"$room/said" 2>&1 &
+for _ in {1..200}; do
+    if grep -q '^proved' "$room/said" && [ "$(wc -l <"$room/asked")" -eq 2 ]; then break; fi
+    sleep 0.1
+done
+kill "$!"
+wait "$!"
+status=$?
+left=$(while read -r process; do grep -qs '^State:[[:space:]]*[^Z[:space:]]' "/proc/$process/status" && echo "$process"; done <"$room/asked")
+same "library/build that is ended leaves no prover running" "143, of 2:" "$status, of $(wc -l <"$room/asked"):$left"
+[ -z "$left" ] || kill -KILL $left
 
 # The header is for any C from C99 on and for C++, and asserts the layout in each.
 compiler=$(command -v gcc || command -v x86_64-linux-gnu-gcc)
@@ -34,7 +97,7 @@ done
 
 # Rust's own test runner prints a line for each test.
 for tests in test-rust test-crate; do
-    MURZICANU_STRIP=examples/service.strip MURZICANU_LINES=examples/service.lines library/build --run $tests >"$room/rust" 2>&1
+    library/build --run $tests >"$room/rust" 2>&1
     status=$?
     sed -n 's/^test \(tests::\)\{0,1\}\(.*\) \.\.\. ok$/ok the library from Rust: \2/p; s/^test \(tests::\)\{0,1\}\(.*\) \.\.\. FAILED$/not ok the library from Rust: \2/p' "$room/rust" | tr _ ' '
     same "the library from Rust: $tests ends well" 0 "$status"
@@ -51,9 +114,9 @@ same "both tell the same gain each second" "$(gains "$room/c")" "$(gains "$room/
 library/build --run limit-rust >"$room/limited"
 same "the limiter's example leaves nothing above full scale" "0 " \
     "$? $(sed -n 's/.*at most *\([0-9.]*\),.*/\1/p' "$room/limited" | awk '$1 > 32768')"
-names=$(sed -n 's/^pub extern "C" fn \([a-z_]*\).*/\1/p' crates/murzicanu/src/lib.rt | sort)
-same "the header declares what the library exports, and nothing else" "$names" \
-    "$(sed -n 's/^uint32_t \(murzicanu_[a-z_]*\)(.*/\1/p' library/include/murzicanu.h | sort)"
+exported=$(sed -n 's/^pub extern "C" fn \([a-z_]*\).*/\1/p' crates/murzicanu/src/lib.rt | LC_ALL=C sort)
+same "the header declares what the library exports, and nothing else" "$exported" \
+    "$(sed -n 's/^uint32_t \(murzicanu_[a-z_]*\)(.*/\1/p' library/include/murzicanu.h | LC_ALL=C sort)"
 same "the archive needs memset and memcpy at most" "" \
     "$(nm target/staticlib/libmurzicanu.a | sed -n 's/^ *U //p' | grep -vx 'memset\|memcpy')"
 version=$(sed -n 's/^const VERSION: u32 = \([0-9]*\);/\1/p' crates/murzicanu/src/lib.rt)

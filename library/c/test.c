@@ -295,8 +295,10 @@ static void many(void) {
 }
 
 int main(int argc, char **argv) {
-    if (argc != 3)
+    if (argc != 3) {
+        fprintf(stderr, "test-c: wants a strip and the lines that are due for it\n");
         return 2;
+    }
     check(murzicanu_version() == MURZICANU_VERSION, "the header and the archive have the same version");
     service(argv[1], argv[2]);
     determined();
