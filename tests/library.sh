@@ -112,8 +112,9 @@ same "the example in Rust ends well, after ten seconds of sound" "0 10" "$? $(wc
 gains() { sed 's/.*gain \(-\{0,1\}[0-9.]*\) dB.*/\1/' "$1"; }
 same "both tell the same gain each second" "$(gains "$room/c")" "$(gains "$room/rust")"
 library/build --run limit-rust >"$room/limited"
-same "the limiter's example leaves nothing above full scale" "0 " \
-    "$? $(sed -n 's/.*at most *\([0-9.]*\),.*/\1/p' "$room/limited" | awk '$1 > 32768')"
+same "the limiter's example leaves nothing below -32768 or above 32767, and reaches both" "0 10 -32768.0 32767.0" \
+    "$? $(sed -n 's/.*out from *\([-0-9.]*\) to *\([-0-9.]*\),.*/\1 \2/p' "$room/limited" |
+        awk 'NR == 1 { low = $1; high = $2 } $1 < low { low = $1 } $2 > high { high = $2 } END { print NR, low, high }')"
 exported=$(sed -n 's/^pub extern "C" fn \([a-z_]*\).*/\1/p' crates/murzicanu/src/lib.rt | LC_ALL=C sort)
 same "the header declares what the library exports, and nothing else" "$exported" \
     "$(sed -n 's/^uint32_t \(murzicanu_[a-z_]*\)(.*/\1/p' library/include/murzicanu.h | LC_ALL=C sort)"
@@ -122,3 +123,33 @@ same "the archive needs memset and memcpy at most" "" \
 version=$(sed -n 's/^const VERSION: u32 = \([0-9]*\);/\1/p' crates/murzicanu/src/lib.rt)
 same "the library, the header and the crate have one version" "$version $version" \
     "$(sed -n 's/^#define MURZICANU_VERSION \([0-9]*\)u$/\1/p' library/include/murzicanu.h) $(sed -n 's/^pub const VERSION: u32 = \([0-9]*\);/\1/p' library/rust/src/lib.rs)"
+
+# What gcc makes for this machine by itself. The archive is for x86-64, so nothing else can link it.
+if [ "$machine" != x86_64 ]; then
+    echo "-- left out: a program that gcc links by itself; this machine is $machine, and the archive for x86-64"
+    exit 0
+fi
+cat >"$room/my.c" <<'END'
+#include <stdio.h>
+#include "murzicanu.h"
+int main(void) {
+    murzicanu_settings settings = MURZICANU_USUAL_SETTINGS;
+    murzicanu_figures figures = {0.95f, -20.0f, -12.0f, -80.0f, -60.0f};
+    murzicanu_chain chain;
+    murzicanu_limiter limiter;
+    murzicanu_answer answer;
+    murzicanu_published now;
+    float frame[480] = {0}, level;
+    uint32_t refused = murzicanu_chain_new(&chain, &settings, 12, 480);
+    refused |= murzicanu_chain_step(&chain, &figures, frame, 480, 1, 480, &answer);
+    refused |= murzicanu_chain_read(&chain, &now);
+    refused |= murzicanu_limiter_new(&limiter, 480);
+    refused |= murzicanu_limiter_step(&limiter, frame, 480, 1, 480);
+    refused |= murzicanu_limiter_read(&limiter, &level);
+    printf("version %u, refused with %u", murzicanu_version(), refused);
+    return 0;
+}
+END
+line=$(sed -n 's/^    \(gcc .*my\.c.*\)$/\1/p' docs/EMBEDDING.md)
+same "the line for gcc in docs/EMBEDDING.md links all seven functions, and no other library" "version $version, refused with 0 no -l" \
+    "$(${line/my.c/$room/my.c} -o "$room/my" && "$room/my") $(case "$line " in *" -l"*) ;; *) echo "no -l" ;; esac)"

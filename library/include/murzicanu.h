@@ -1,7 +1,7 @@
 /* Murzicanu: the speech leveller whose behaviour is proved, for C and C++.
  *
- * Link with libmurzicanu.a (library/build makes it, for x86-64). It calls no function but memset and memcpy, which
- * every C library has.
+ * Link with libmurzicanu.a (library/build makes it, for x86-64). It needs memset and memcpy at most, which every C
+ * library has, and nothing else.
  *
  * You own all memory. A chain or a limiter is a plain struct that you may keep anywhere, copy, save and restore; every
  * byte of it belongs to a field. Nothing is allocated, nothing that changes is global, no call blocks, and every call
