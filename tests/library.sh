@@ -95,6 +95,47 @@ for language in c c++; do
     done
 done
 
+# The check of the floats is the processor's work, whatever is optimised. gcc's -ffast-math, where it links a program, flushes
+# the smallest numbers to zero before main.
+case $machine in
+x86_64) c=(gcc) run=() ;;
+*) c=(x86_64-linux-gnu-gcc -static) run=(qemu-x86_64) ;;
+esac
+cat >"$room/ready.c" <<'END'
+#include <stdio.h>
+#include <xmmintrin.h>
+#include "murzicanu.h"
+int main(void) {
+    static const unsigned registers[] = {0x1F80, 0x3F80, 0x5F80, 0x7F80, 0x9F80, 0x1FC0};
+    unsigned kept = _mm_getcsr();
+    int i, answers[6];
+    printf("%d ", murzicanu_floats_ready());
+    for (i = 0; i < 6; i++) {
+        _mm_setcsr(registers[i]);
+        answers[i] = murzicanu_floats_ready();
+    }
+    _mm_setcsr(kept);
+    for (i = 0; i < 6; i++)
+        printf("%d", answers[i]);
+    return 0;
+}
+END
+ready() { # LANGUAGE STANDARD OPTION..
+    local language=$1 standard=$2
+    shift 2
+    "${c[@]}" -x "$language" -std="$standard" -Wall -Wextra -Werror -pedantic "$@" -I library/include -o "$room/ready" "$room/ready.c" &&
+        "${run[@]}" "$room/ready"
+}
+for options in -O0 -O2 "-O3 -funroll-loops"; do
+    same "the check of the floats knows each register with $options" "1 100000" "$(ready c c99 $options)"
+done
+for options in "-O3 -ffast-math" "-Ofast -fno-trapping-math"; do
+    same "the check of the floats knows each register, and the start of a program, with $options" "0 100000" "$(ready c c99 $options)"
+done
+if echo | "${c[@]}" -fsyntax-only -x c++ - 2>/dev/null; then
+    same "the check of the floats knows each register in C++ 98" "1 100000" "$(ready c++ c++98 -O2)"
+fi
+
 # Rust's own test runner prints a line for each test.
 for tests in test-rust test-crate; do
     library/build --run $tests >"$room/rust" 2>&1
@@ -118,6 +159,10 @@ same "the limiter's example leaves nothing below -32768 or above 32767, and reac
 exported=$(sed -n 's/^pub extern "C" fn \([a-z_]*\).*/\1/p' crates/murzicanu/src/lib.rt | LC_ALL=C sort)
 same "the header declares what the library exports, and nothing else" "$exported" \
     "$(sed -n 's/^uint32_t \(murzicanu_[a-z_]*\)(.*/\1/p' library/include/murzicanu.h | LC_ALL=C sort)"
+# What the compiler has seen there: each function with its words, `extern` or `static`, before the name.
+"$compiler" -std=c99 -fsyntax-only -aux-info "$room/seen" -include library/include/murzicanu.h -x c /dev/null
+same "and one function of its own, the check of the floats" "$(echo "$exported" | sed 's/^/extern uint32_t /')
+static int murzicanu_floats_ready" "$(sed -n 's|.*/murzicanu\.h:[0-9]*:[A-Z]* \*/ \([^(]*[a-z]\) (.*|\1|p' "$room/seen" | LC_ALL=C sort)"
 same "the archive needs memset and memcpy at most" "" \
     "$(nm target/staticlib/libmurzicanu.a | sed -n 's/^ *U //p' | grep -vx 'memset\|memcpy')"
 version=$(sed -n 's/^const VERSION: u32 = \([0-9]*\);/\1/p' crates/murzicanu/src/lib.rt)
