@@ -144,6 +144,8 @@ for tests in test-rust test-crate; do
     same "the library from Rust: $tests ends well" 0 "$status"
     [ "$status" = 0 ] || cat "$room/rust"
 done
+MURZICANU_LINES=$room/other.lines library/build --run test-rust a_service >"$room/rust" 2>&1
+same "the library from Rust: with other lines, which a variable names, its service fails" "101 1" "$? $(grep -c '_due \.\.\. FAILED$' "$room/rust")"
 
 # The two examples of the whole box are the same service, so they tell the same gain.
 library/build --run level-c >"$room/c"
@@ -168,10 +170,17 @@ same "the archive needs memset and memcpy at most" "" \
 version=$(sed -n 's/^const VERSION: u32 = \([0-9]*\);/\1/p' crates/murzicanu/src/lib.rt)
 same "the library, the header and the crate have one version" "$version $version" \
     "$(sed -n 's/^#define MURZICANU_VERSION \([0-9]*\)u$/\1/p' library/include/murzicanu.h) $(sed -n 's/^pub const VERSION: u32 = \([0-9]*\);/\1/p' library/rust/src/lib.rs)"
+for variable in MURZICANU_LIB MURZICANU_STRIP MURZICANU_LINES; do
+    same "docs/EMBEDDING.md names $variable" yes "$(grep -q "\`$variable\`" docs/EMBEDDING.md && echo yes)"
+done
+if git rev-parse --is-inside-work-tree >/dev/null 2>&1; then
+    same "git does not see what cargo leaves in the crate's folder" "library/rust/Cargo.lock library/rust/target/debug" \
+        "$(git check-ignore library/rust/Cargo.lock library/rust/target/debug | tr '\n' ' ' | sed 's/ $//')"
+fi
 
-# What gcc makes for this machine by itself. The archive is for x86-64, so nothing else can link it.
+# What gcc and cargo make for this machine by themselves. The archive is for x86-64, so nothing else can link it.
 if [ "$machine" != x86_64 ]; then
-    echo "-- left out: a program that gcc links by itself; this machine is $machine, and the archive for x86-64"
+    echo "-- left out: programs that gcc and cargo link by themselves; this machine is $machine, and the archive for x86-64"
     exit 0
 fi
 cat >"$room/my.c" <<'END'
@@ -198,3 +207,70 @@ END
 line=$(sed -n 's/^    \(gcc .*my\.c.*\)$/\1/p' docs/EMBEDDING.md)
 same "the line for gcc in docs/EMBEDDING.md links all seven functions, and no other library" "version $version, refused with 0 no -l" \
     "$(${line/my.c/$room/my.c} -o "$room/my" && "$room/my") $(case "$line " in *" -l"*) ;; *) echo "no -l" ;; esac)"
+
+if ! cargo --version >/dev/null 2>&1; then
+    echo "-- left out: the crate with cargo, which is not here"
+    exit 0
+fi
+export CARGO_TARGET_DIR=$room/cargo
+(cd library/rust && cargo test --offline) >"$room/said" 2>&1
+same "cargo test passes by itself: the crate's own tests, those of the box, and the example in the documentation" "0 3 0 1 1" \
+    "$? $(grep -c '^test result: ok' "$room/said") $(grep -c 'FAILED\|ignored$' "$room/said") $(grep -c '^test a_service_has_the_lines_that_are_due \.\.\. ok' "$room/said") $(grep -c '^test src/lib.rs - .* ok' "$room/said")"
+grep -q '^error' "$room/said" && cat "$room/said"
+
+# Another archive with the same functions, of version 99, in the place of the one that was linked before.
+cat >"$room/other.c" <<'END'
+#include "murzicanu.h"
+uint32_t murzicanu_version(void) { return 99; }
+uint32_t murzicanu_chain_new(murzicanu_chain *a, const murzicanu_settings *b, uint32_t c, size_t d) { return !a + !b + !c + !d; }
+uint32_t murzicanu_chain_step(murzicanu_chain *a, const murzicanu_figures *b, float *c, size_t d, size_t e, size_t f,
+                              murzicanu_answer *g) { return !a + !b + !c + !d + !e + !f + !g; }
+uint32_t murzicanu_chain_read(const murzicanu_chain *a, murzicanu_published *b) { return !a + !b; }
+uint32_t murzicanu_limiter_new(murzicanu_limiter *a, size_t b) { return !a + !b; }
+uint32_t murzicanu_limiter_step(murzicanu_limiter *a, float *b, size_t c, size_t d, size_t e) { return !a + !b + !c + !d + !e; }
+uint32_t murzicanu_limiter_read(const murzicanu_limiter *a, float *b) { return !a + !b; }
+END
+gcc -Wall -Wextra -Werror -I library/include -c -o "$room/other.o" "$room/other.c" && ar rcs "$room/other.a" "$room/other.o"
+mkdir -p "$room/app/src" "$room/archive"
+cat >"$room/app/Cargo.toml" <<END
+[package]
+name = "app"
+version = "0.1.0"
+edition = "2021"
+
+[dependencies]
+murzicanu = { path = "$PWD/library/rust" }
+
+[workspace]
+END
+cat >"$room/app/src/main.rs" <<'END'
+use murzicanu::{Limiter, Refusal};
+use std::arch::asm;
+
+fn told(made: Result<Limiter, Refusal>) -> String {
+    made.map_or_else(|refusal| format!("{refusal:?}"), |_| String::from("made"))
+}
+
+fn main() {
+    let first = told(Limiter::new(480));
+    unsafe { asm!("ldmxcsr [{}]", in(reg) &0x9F80_u32 as *const u32) };
+    let second = Limiter::new(480);
+    unsafe { asm!("ldmxcsr [{}]", in(reg) &0x1F80_u32 as *const u32) };
+    println!("{first}; flushing to zero: {}", told(second));
+}
+END
+app() { (cd "$room/app" && MURZICANU_LIB=$room/archive cargo run --quiet --offline 2>&1); }
+cp target/staticlib/libmurzicanu.a "$room/archive"
+same "cargo links the archive that MURZICANU_LIB names" "made; flushing to zero: Floats" "$(app)"
+cp "$room/other.a" "$room/archive/libmurzicanu.a"
+same "cargo links an archive anew that was replaced; its version is told before the floats" "Version(99); flushing to zero: Version(99)" "$(app)"
+cp target/staticlib/libmurzicanu.a "$room/archive"
+same "and the first one, put back" "made; flushing to zero: Floats" "$(app)"
+rm "$room/archive/libmurzicanu.a"
+same "an archive that is missing where MURZICANU_LIB says is told, with what to run" \
+    "There is no $room/archive/libmurzicanu.a. MURZICANU_LIB has to name the folder of libmurzicanu.a, which library/build makes." \
+    "$(app | sed -n 's/^ *\(There is no .*\|MURZICANU_LIB has .*\)$/\1/p' | tr '\n' ' ' | sed 's/ $//')"
+(cd "$room/copy/library/rust" && cargo build --offline) >"$room/said" 2>&1
+same "one that is missing where library/build puts it too" \
+    "101 There is no $room/copy/library/rust/../../target/staticlib/libmurzicanu.a. Run library/build, which makes it, or let MURZICANU_LIB name the folder that has it." \
+    "$? $(sed -n 's/^ *\(There is no .*\|Run library.build.*\)$/\1/p' "$room/said" | tr '\n' ' ' | sed 's/ $//')"

@@ -13,7 +13,7 @@
 //! What the proof takes for granted of the processor is what Rust does too: floats round to nearest, and the smallest are
 //! not flushed to zero. A thread that was set otherwise is refused by `new`, and [`floats_ready`] asks at any time.
 //!
-//! ```no_run
+//! ```
 //! use murzicanu::{Answer, Chain, Figures, Settings, USUAL_THRESHOLD};
 //!
 //! let mut chain = Chain::new(&Settings::default(), USUAL_THRESHOLD, 480)?;

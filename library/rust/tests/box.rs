@@ -1,8 +1,10 @@
-//! Tests of the library from Rust. MURZICANU_STRIP and MURZICANU_LINES name a strip and the lines that are due for it.
+//! Tests of the library from Rust. MURZICANU_STRIP and MURZICANU_LINES name a strip and the lines that are due for it; where
+//! cargo builds the tests, they are otherwise the example of the repository.
 
 use murzicanu::{floats_ready, Answer, Chain, Figures, Limiter, Refusal, Settings, USUAL_THRESHOLD, VERSION};
 use std::arch::asm;
 use std::mem::{size_of, MaybeUninit};
+use std::path::{Path, PathBuf};
 use std::{env, fs, slice};
 
 /// The crate's own declarations of what the archive has, for the tests that look at every byte.
@@ -26,10 +28,19 @@ fn hundredths(x: f32) -> i64 {
     (f64::from(x) * 100.0) as i64
 }
 
+/// The file that a variable names, or one of the repository's examples. Only cargo says where the crate is.
+fn file(variable: &str, example: &str) -> PathBuf {
+    env::var_os(variable).map(PathBuf::from).unwrap_or_else(|| {
+        let here = option_env!("CARGO_MANIFEST_DIR");
+        let here = here.unwrap_or_else(|| panic!("without cargo, {variable} has to name a file like examples/{example}"));
+        Path::new(here).join("../../examples").join(example)
+    })
+}
+
 #[test]
 fn a_service_has_the_lines_that_are_due() {
-    let strip = fs::read(env::var_os("MURZICANU_STRIP").expect("MURZICANU_STRIP")).unwrap();
-    let due = fs::read_to_string(env::var_os("MURZICANU_LINES").expect("MURZICANU_LINES")).unwrap();
+    let strip = fs::read(file("MURZICANU_STRIP", "service.strip")).unwrap();
+    let due = fs::read_to_string(file("MURZICANU_LINES", "service.lines")).unwrap();
     let samples = usize::from(u16::from_be_bytes([strip[4], strip[5]]));
     let settings = Settings {
         headroom: real(&strip[6..10]),
