@@ -1,4 +1,5 @@
 # How ./test runs a script and counts what it says. ./test sources it, and so does tests/test-runner.sh, which tests it.
+. tools/session.bash
 passed=0 failed=0
 ok() { echo "ok $1"; passed=$((passed + 1)); }
 not_ok() { echo "not ok $1"; failed=$((failed + 1)); }
@@ -30,28 +31,11 @@ finish_session() { # SESSION
     return "$status"
 }
 
-# Ends each process of a session. What a script starts is in its session, also in a process group of its own. A process that
-# is just being started is found in the next round.
+# Ends a session, with all that it has left running.
 end_session() { # SESSION
-    local found process stat words
-    for _ in {1..50}; do
-        found=no
-        for process in /proc/[0-9]*; do
-            stat=
-            read -r -d '' stat <"$process/stat"
-            # Behind the name, which stands in brackets: the state (Z: it has ended), the parent, the group, the session.
-            read -r -a words <<<"${stat##*) }"
-            if [ "${words[3]-}" = "$1" ] && [ "${words[0]}" != Z ]; then
-                kill -KILL "${process#/proc/}"
-                found=yes
-            fi
-        done
-        [ "$found" = yes ] || break
-        sleep 0.1
-    done
-    wait "$1"
+    kill_session "$1"
     unset "ends[$1]"
-} 2>/dev/null
+}
 
 # Ends all that was started: for the end of the shell, however that comes.
 end_sessions() {

@@ -13,6 +13,10 @@ int main(void) {
         fprintf(stderr, "the archive has version %u, and the header %u\n", murzicanu_version(), MURZICANU_VERSION);
         return 1;
     }
+    if (!murzicanu_floats_ready()) {
+        fprintf(stderr, "this thread does not compute floats as the library takes for granted\n");
+        return 1;
+    }
     murzicanu_settings settings = MURZICANU_USUAL_SETTINGS;
     murzicanu_chain chain;
     uint32_t reply = murzicanu_chain_new(&chain, &settings, MURZICANU_USUAL_THRESHOLD, SAMPLES);

@@ -5,6 +5,7 @@
 #include <stdio.h>
 #include <stdlib.h>
 #include <string.h>
+#include <xmmintrin.h>
 
 #include "murzicanu.h"
 
@@ -294,14 +295,72 @@ static void many(void) {
           "and after them the chain, the limiter and the frame are those of before, byte for byte");
 }
 
+/* The register MXCSR: how the processor rounds, and what it does with the smallest numbers. */
+enum { DEFAULT = 0x1F80, ROUND_DOWN = 0x3F80, ROUND_UP = 0x5F80, ROUND_TO_ZERO = 0x7F80, FTZ = 0x9F80, DAZ = 0x1FC0 };
+
+/* What the header's check says of a thread whose register is this. */
+static int ready(unsigned registered) {
+    unsigned kept = _mm_getcsr();
+    _mm_setcsr(registered);
+    int answer = murzicanu_floats_ready();
+    _mm_setcsr(kept);
+    return answer;
+}
+
+/* The floats of the thread: what the check says of them, and that a call depends on them. */
+static void floats(void) {
+    check(murzicanu_floats_ready() == 1 && ready(DEFAULT) == 1, "floats as they are by default are ready");
+    check(ready(ROUND_UP) == 0, "floats that are rounded up are not ready");
+    check(ready(ROUND_DOWN) == 0, "floats that are rounded down are not ready");
+    check(ready(ROUND_TO_ZERO) == 0, "floats that are rounded to zero are not ready");
+    check(ready(FTZ) == 0, "floats of which a subnormal result is made zero are not ready");
+    check(ready(DAZ) == 0, "floats of which a subnormal operand is taken for zero are not ready");
+    check(murzicanu_floats_ready() == 1, "and after that they are ready again");
+
+    murzicanu_settings settings = MURZICANU_USUAL_SETTINGS;
+    murzicanu_chain chain;
+    murzicanu_published now;
+    murzicanu_answer answer;
+    float frame[LENGTH];
+    tone(frame, 0);
+    int good = murzicanu_chain_new(&chain, &settings, 12, SAMPLES) == MURZICANU_DONE;
+    _mm_setcsr(ROUND_UP);
+    int told = murzicanu_floats_ready() == 0;
+    uint32_t read = murzicanu_chain_read(&chain, &now);
+    uint32_t stepped = murzicanu_chain_step(&chain, &SPEECH, frame, LENGTH, CHANNELS, SAMPLES, &answer);
+    _mm_setcsr(DEFAULT);
+    check(good && told && read == MURZICANU_SETTING && stepped == MURZICANU_SETTING,
+          "a chain just made is refused with 4 where the thread rounds up");
+    check(murzicanu_chain_step(&chain, &SPEECH, frame, LENGTH, CHANNELS, SAMPLES, &answer) == MURZICANU_DONE,
+          "and taken again where it rounds to nearest");
+
+    /* A frame of subnormal samples through a limiter, whose gain is 1 there. */
+    float kept[SAMPLES], flushed[SAMPLES];
+    uint32_t replies = 0;
+    for (int pass = 0; pass < 2; pass++) {
+        murzicanu_limiter limiter;
+        float *sound = pass ? flushed : kept;
+        for (int i = 0; i < SAMPLES; i++)
+            sound[i] = 1.0e-40f;
+        _mm_setcsr(pass ? FTZ : DEFAULT);
+        replies |= murzicanu_limiter_new(&limiter, SAMPLES) | murzicanu_limiter_step(&limiter, sound, SAMPLES, 1, SAMPLES);
+        _mm_setcsr(DEFAULT);
+    }
+    check(replies == MURZICANU_DONE && !all_0(kept, sizeof kept) && all_0(flushed, sizeof flushed),
+          "the smallest samples come out as zero where the thread flushes them, and no call notices");
+}
+
 int main(int argc, char **argv) {
-    if (argc != 3)
+    if (argc != 3) {
+        fprintf(stderr, "test-c: wants a strip and the lines that are due for it\n");
         return 2;
+    }
     check(murzicanu_version() == MURZICANU_VERSION, "the header and the archive have the same version");
     service(argv[1], argv[2]);
     determined();
     refused();
     many();
+    floats();
 
     murzicanu_settings settings = MURZICANU_USUAL_SETTINGS, wrong = settings;
     murzicanu_chain chain, before, zero;

@@ -1,7 +1,7 @@
 /* Murzicanu: the speech leveller whose behaviour is proved, for C and C++.
  *
- * Link with libmurzicanu.a (library/build makes it, for x86-64). It calls no function but memset and memcpy, which
- * every C library has.
+ * Link with libmurzicanu.a (library/build makes it, for x86-64). It needs memset and memcpy at most, which every C
+ * library has, and nothing else.
  *
  * You own all memory. A chain or a limiter is a plain struct that you may keep anywhere, copy, save and restore; every
  * byte of it belongs to a field. Nothing is allocated, nothing that changes is global, no call blocks, and every call
@@ -17,9 +17,14 @@
  * still passes is used like any other, and what is proved holds of it.
  *
  * What a call owes of you is what C cannot check: pointers that are not null, are aligned for their type and point to
- * the whole struct, or to as many samples as you say; no two of them to the same memory; and floats that are computed as
- * C does it by default. A thread that rounds otherwise than to nearest or flushes small numbers to zero (FTZ, DAZ) has
- * to set that back around a call.
+ * the whole struct, or to as many samples as you say; and no two of them to the same memory.
+ *
+ * And the calling thread has to compute floats as the proof has it, which is what C does by default: rounded to
+ * nearest, ties to even, with the smallest (subnormal) numbers kept, and no operation traps. On x86-64 that stands in a
+ * register, MXCSR, and a thread may have changed it: many audio hosts flush the smallest numbers to zero (FTZ, DAZ), and
+ * a program that gcc links with -ffast-math does so from its start. No call notices, and nothing that is proved holds
+ * then: samples come out with other bits, and a chain that was made with one rounding may be refused with 4 under
+ * another. murzicanu_floats_ready() below asks the processor; where it says 0, set the register back around every call.
  *
  * A frame is 10 ms of sound: channel after channel (not interleaved), each with the same number of samples, on the
  * scale of 16-bit samples, where full scale is 32768. What comes out lies between -32768 and 32767: that is proved.
@@ -222,6 +227,24 @@ MURZICANU_LAID_OUT(limiter_place, offsetof(murzicanu_chain, limiter) == 208);
 
 /* The version of the archive: MURZICANU_VERSION where it fits this header. */
 uint32_t murzicanu_version(void);
+
+/* Whether the calling thread computes floats as every call takes it for granted: 1, or 0 where it does not. Ask in each
+ * thread that calls the library, before its first call and after whatever may have changed it. This is no function of
+ * the archive. Its numbers are volatile, so that the processor computes and not the compiler, whatever is optimised;
+ * only with -mfpmath=387 it would ask another part of the processor than the one that the archive uses. */
+static inline int murzicanu_floats_ready(void) {
+    volatile float one = 1.0f;
+    volatile float half = 5.9604644775390625e-8f;    /* 2 to the -24, half the step from 1 to the next float */
+    volatile float more = 1.78813934326171875e-7f;   /* three times that, one and a half steps */
+    volatile float normal = 1.1754943508222875e-38f; /* 2 to the -126, the least that is not subnormal */
+    volatile float least = 1.401298464324817e-45f;   /* 2 to the -149, the least of all */
+    /* Ties: half a step goes back to 1, one and a half go on to the second float, and so below 0. */
+    volatile float back = one + half, on = one + more, below = -one - half, beyond = -one - more;
+    /* A subnormal result and a subnormal operand. */
+    volatile float result = normal * 0.5f, operand = least * 8388608.0f;
+    return back <= 1.0f && on >= 1.0000002384185791015625f && below >= -1.0f && beyond <= -1.0000002384185791015625f &&
+           result > 0.0f && operand > 0.0f;
+}
 
 /* ---- The whole box: level of the speech, headroom, gain, limiter. */
 

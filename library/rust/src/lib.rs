@@ -10,10 +10,10 @@
 //!   published later;
 //! - a refused step changes nothing.
 //!
-//! What the proof takes for granted of the processor is what Rust does too: floats round to nearest, and small ones are
-//! not flushed to zero.
+//! What the proof takes for granted of the processor is what Rust does too: floats round to nearest, and the smallest are
+//! not flushed to zero. A thread that was set otherwise is refused by `new`, and [`floats_ready`] asks at any time.
 //!
-//! ```no_run
+//! ```
 //! use murzicanu::{Answer, Chain, Figures, Settings, USUAL_THRESHOLD};
 //!
 //! let mut chain = Chain::new(&Settings::default(), USUAL_THRESHOLD, 480)?;
@@ -32,7 +32,10 @@
 use std::error::Error;
 use std::fmt;
 
+mod floats;
 mod library;
+
+pub use floats::floats_ready;
 
 /// How many adjacent speech frames make a reading, usually.
 pub const USUAL_THRESHOLD: u32 = 12;
@@ -51,24 +54,28 @@ pub enum Refusal {
     Figure,
     /// A sample that is not a number, infinite or too large: beyond 65536 for a chain, 33554432 for a limiter.
     Sample,
-    /// A setting out of its range, or a threshold that is not 1 to 200.
+    /// A setting out of its range, or a threshold that is not 1 to 200. From a step or a reading only in a thread that
+    /// does not compute floats as it should ([`floats_ready`]).
     Setting,
     /// The archive that is linked has this version, and not [`VERSION`]. Told by `new`, which makes nothing then.
     Version(u32),
+    /// The calling thread does not compute floats as the archive takes it for granted ([`floats_ready`]). Told by `new`,
+    /// which makes nothing then.
+    Floats,
     /// The archive answered this number, which no call of [`VERSION`] answers.
     Unknown(u32),
 }
 
 impl Refusal {
     /// The number that the archive answered: 1 shape, 2 figure, 3 sample, 4 setting. None where it was not asked,
-    /// because its version is another.
+    /// because its version is another or the thread's floats are.
     pub fn number(self) -> Option<u32> {
         match self {
             Refusal::Shape => Some(1),
             Refusal::Figure => Some(2),
             Refusal::Sample => Some(3),
             Refusal::Setting => Some(4),
-            Refusal::Version(_) => None,
+            Refusal::Version(_) | Refusal::Floats => None,
             Refusal::Unknown(number) => Some(number),
         }
     }
@@ -79,6 +86,17 @@ impl Refusal {
             Ok(())
         } else {
             Err(Refusal::Version(version))
+        }
+    }
+
+    /// Whether the archive can be called at all: by its version, then by the thread's floats.
+    fn of_call() -> Result<(), Refusal> {
+        // SAFETY: the function takes nothing.
+        Refusal::of_version(unsafe { library::murzicanu_version() })?;
+        if floats_ready() {
+            Ok(())
+        } else {
+            Err(Refusal::Floats)
         }
     }
 
@@ -103,6 +121,9 @@ impl fmt::Display for Refusal {
             Refusal::Setting => (4, "a setting or the state"),
             Refusal::Version(version) => {
                 return write!(f, "libmurzicanu.a has version {version}, and this crate is written for {VERSION}");
+            }
+            Refusal::Floats => {
+                return write!(f, "this thread does not compute floats as libmurzicanu.a takes it for granted");
             }
             Refusal::Unknown(number) => return write!(f, "refused with {number}, a number that this crate does not know"),
         };
@@ -195,11 +216,11 @@ impl Chain {
     ///
     /// # Errors
     ///
-    /// [`Refusal::Version`] where the archive has another version; then [`Refusal::Shape`] where no frame has so many
-    /// samples, then [`Refusal::Setting`].
+    /// [`Refusal::Version`] where the archive has another version, then [`Refusal::Floats`] where this thread does not
+    /// compute floats as it should; then [`Refusal::Shape`] where no frame has so many samples, then
+    /// [`Refusal::Setting`].
     pub fn new(settings: &Settings, threshold: u32, samples: usize) -> Result<Chain, Refusal> {
-        // SAFETY: the function takes nothing.
-        Refusal::of_version(unsafe { library::murzicanu_version() })?;
+        Refusal::of_call()?;
         let mut state = library::Chain::default();
         // SAFETY: both references are to whole structs in the layout that the library has.
         let reply = unsafe { library::murzicanu_chain_new(&mut state, settings, threshold, samples) };
@@ -237,7 +258,7 @@ impl Chain {
     ///
     /// # Errors
     ///
-    /// None is known: a chain that was made passes its test after every frame.
+    /// None where [`floats_ready`]: a chain that was made passes its test after every frame.
     pub fn published(&self) -> Result<Published, Refusal> {
         let mut now = library::Published::default();
         // SAFETY: as above.
@@ -268,10 +289,10 @@ impl Limiter {
     ///
     /// # Errors
     ///
-    /// [`Refusal::Version`] where the archive has another version; then [`Refusal::Shape`] where no frame has so many.
+    /// [`Refusal::Version`] where the archive has another version, then [`Refusal::Floats`] where this thread does not
+    /// compute floats as it should; then [`Refusal::Shape`] where no frame has so many samples.
     pub fn new(samples: usize) -> Result<Limiter, Refusal> {
-        // SAFETY: the function takes nothing.
-        Refusal::of_version(unsafe { library::murzicanu_version() })?;
+        Refusal::of_call()?;
         let mut state = library::Limiter::default();
         // SAFETY: the reference is to a whole struct in the layout that the library has.
         let reply = unsafe { library::murzicanu_limiter_new(&mut state, samples) };
@@ -295,7 +316,7 @@ impl Limiter {
     ///
     /// # Errors
     ///
-    /// None is known: a limiter that was made passes its test after every frame.
+    /// None where [`floats_ready`]: a limiter that was made passes its test after every frame.
     pub fn level(&self) -> Result<f32, Refusal> {
         let mut level = 0.0;
         // SAFETY: as above.
@@ -328,5 +349,7 @@ mod tests {
         assert_eq!(Refusal::of_version(VERSION + 1), Err(Refusal::Version(VERSION + 1)));
         assert_eq!(Refusal::Version(7).number(), None);
         assert!(Refusal::Version(7).to_string().contains("version 7"));
+        assert_eq!(Refusal::Floats.number(), None);
+        assert!(Refusal::Floats.to_string().contains("floats"));
     }
 }

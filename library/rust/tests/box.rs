@@ -1,7 +1,10 @@
-//! Tests of the library from Rust. MURZICANU_STRIP and MURZICANU_LINES name a strip and the lines that are due for it.
+//! Tests of the library from Rust. MURZICANU_STRIP and MURZICANU_LINES name a strip and the lines that are due for it; where
+//! cargo builds the tests, they are otherwise the example of the repository.
 
-use murzicanu::{Answer, Chain, Figures, Limiter, Refusal, Settings, USUAL_THRESHOLD, VERSION};
+use murzicanu::{floats_ready, Answer, Chain, Figures, Limiter, Refusal, Settings, USUAL_THRESHOLD, VERSION};
+use std::arch::asm;
 use std::mem::{size_of, MaybeUninit};
+use std::path::{Path, PathBuf};
 use std::{env, fs, slice};
 
 /// The crate's own declarations of what the archive has, for the tests that look at every byte.
@@ -25,10 +28,19 @@ fn hundredths(x: f32) -> i64 {
     (f64::from(x) * 100.0) as i64
 }
 
+/// The file that a variable names, or one of the repository's examples. Only cargo says where the crate is.
+fn file(variable: &str, example: &str) -> PathBuf {
+    env::var_os(variable).map(PathBuf::from).unwrap_or_else(|| {
+        let here = option_env!("CARGO_MANIFEST_DIR");
+        let here = here.unwrap_or_else(|| panic!("without cargo, {variable} has to name a file like examples/{example}"));
+        Path::new(here).join("../../examples").join(example)
+    })
+}
+
 #[test]
 fn a_service_has_the_lines_that_are_due() {
-    let strip = fs::read(env::var_os("MURZICANU_STRIP").expect("MURZICANU_STRIP")).unwrap();
-    let due = fs::read_to_string(env::var_os("MURZICANU_LINES").expect("MURZICANU_LINES")).unwrap();
+    let strip = fs::read(file("MURZICANU_STRIP", "service.strip")).unwrap();
+    let due = fs::read_to_string(file("MURZICANU_LINES", "service.lines")).unwrap();
     let samples = usize::from(u16::from_be_bytes([strip[4], strip[5]]));
     let settings = Settings {
         headroom: real(&strip[6..10]),
@@ -251,6 +263,45 @@ const AVAILABLE: usize = 16 + 32;
 fn the_archive_has_the_version_of_the_crate() {
     // SAFETY: the function takes nothing.
     assert_eq!(unsafe { library::murzicanu_version() }, VERSION);
+}
+
+/// What is answered in a thread whose register MXCSR is this: how the processor rounds, and what it does with the
+/// smallest numbers.
+fn with_register<T>(register: u32, asked: impl FnOnce() -> T) -> T {
+    let mut kept = 0_u32;
+    // SAFETY: the register is stored to a number and loaded from one. Rust takes the default for granted; what is asked in
+    // between is what the crate does where it is another one.
+    unsafe {
+        asm!("stmxcsr [{}]", in(reg) &mut kept as *mut u32, options(nostack));
+        asm!("ldmxcsr [{}]", in(reg) &register as *const u32, options(nostack));
+    }
+    let answer = asked();
+    // SAFETY: as above.
+    unsafe { asm!("ldmxcsr [{}]", in(reg) &kept as *const u32, options(nostack)) };
+    answer
+}
+
+#[test]
+fn a_thread_with_other_floats_is_refused() {
+    let all = || {
+        // The settings and the samples are wrong as well: the floats are told first.
+        let wrong = Settings { noise: 1.0, ..Settings::default() };
+        let (chain, limiter) = (Chain::new(&Settings::default(), 12, 480).err(), Limiter::new(480).err());
+        (floats_ready(), chain, limiter, Chain::new(&wrong, 12, 480).err(), Limiter::new(500).err())
+    };
+    let ready = (true, None, None, Some(Refusal::Setting), Some(Refusal::Shape));
+    let none = Some(Refusal::Floats);
+    assert_eq!(with_register(0x1F80, all), ready);
+    for (register, how) in [
+        (0x3F80, "rounded down"),
+        (0x5F80, "rounded up"),
+        (0x7F80, "rounded to zero"),
+        (0x9F80, "a subnormal result made zero (FTZ)"),
+        (0x1FC0, "a subnormal operand taken for zero (DAZ)"),
+    ] {
+        assert_eq!(with_register(register, all), (false, none, none, none, none), "{how}");
+    }
+    assert_eq!(all(), ready);
 }
 
 #[test]
