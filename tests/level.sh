@@ -225,7 +225,7 @@ same_file "level: README's first command levels" "$room/due.wav" "$room/clone/le
 copy=$room/copy
 mkdir -p "$copy/tools" "$copy/tests" "$copy/examples" "$room/bin"
 cp level "$copy/"
-cp tools/proving.bash tools/meter tools/strip-maker tools/ratio "$copy/tools/"
+cp tools/*.bash tools/meter tools/strip-maker tools/ratio "$copy/tools/"
 cp tests/*.bash tests/run-program "$copy/tests/"
 cp -r crates crates.txt "$copy/"
 kit=$(dirname "$(dirname "$(readlink -f "$(command -v rt)")")")
