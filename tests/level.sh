@@ -152,7 +152,6 @@ for reply in 1 2 4 5 6 7; do
 done
 
 # ---- a recording, in each of its forms
-whole=yes
 levelled() { # NAME: out.wav is whole, and the sound of both readers is nearer than it was
     same "level: $1: status 0" 0 "$ended"
     python3 - examples/two-readers.wav "$room/out.wav" <<'NEARER' >"$room/said" 2>&1
@@ -185,6 +184,8 @@ run recording examples/two-readers.wav -
 same_file "level: IN.wav -: the same recording" "$room/due.wav" "$room/got"
 run recording - "$room/out.wav" < <(cat examples/two-readers.wav)
 same_file "level: - OUT.wav, from a pipe: the same recording" "$room/due.wav" "$room/out.wav"
+run recording <(cat examples/two-readers.wav) "$room/piped.wav"
+same_file "level: <(..) as the recording: the same recording" "$room/due.wav" "$room/piped.wav"
 tools/meter --no-progress <examples/two-readers.wav 2>/dev/null | tools/strip-maker to-strip >"$room/my.strip"
 run recording --strip "$room/my.strip" examples/two-readers.wav "$room/strip.wav"
 same "level: --strip STRIP IN.wav OUT.wav: status 0, and nothing is told" "0 0" "$ended $(lines)"
