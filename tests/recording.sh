@@ -102,8 +102,9 @@ levels() { # NAME DUE STRIP: the file is standard input, nothing is told, and DU
 }
 alike() { levels "$1" "$good" "$room/480.flat"; }
 alike "a whole number of frames" <"$good"
-alike "an extended format" < <(wav --samples 4800 --extended)
+alike "an extended format without a mask comes out plain" < <(wav --samples 4800 --extended)
 alike "an extended format, and a chunk of odd size before the samples" < <(wav --samples 4800 --extended --odd-list)
+alike "a plain format of 40 bytes, which says no mask" < <(wav --samples 4800 --format-bytes 40)
 for size in 17 18 19; do alike "a format of $size bytes" < <(wav --samples 4800 --format-bytes $size); done
 for size in 41 4135 4136 4137; do alike "an extended format of $size bytes" < <(wav --samples 4800 --extended --format-bytes $size); done
 alike "chunks after the samples" < <(wav --samples 4800 --late)
@@ -126,14 +127,49 @@ for channels in 1 2 3 8; do
     levels "$channels channels, and a short last frame" "$room/in.wav" "$room/80.flat" <"$room/in.wav"
 done
 
+# The mask, which says the speakers that the channels are for, is kept: the head is then an extended one. The bytes of the
+# one for the speakers of 7.1: the size of all, the format of 40 bytes, its tag, 8 channels, the rate, the bytes a second, 16
+# bytes a group, 16 bits; 22 bytes more, 16 bits, the mask, the own tag; and the size of the samples.
+wav --channels 8 --samples 4800 --extended --mask 0x63f >"$room/8.wav"
+levels "8 channels with a mask: every byte as it was" "$room/8.wav" "$room/480.flat" <"$room/8.wav"
+same "recording: 8 channels with a mask: the head" \
+    "RIFF 3c2c0100 WAVEfmt  28000000 feff 0800 80bb0000 00b80b00 1000 1000 1600 1000 3f060000 0100000000001000800000aa00389b71 data 002c0100" \
+    "$(python3 - "$room/got" <<'HEAD'
+import sys
+head = open(sys.argv[1], "rb").read(68)
+at, words = 0, []
+for size in (-4, 4, -8, 4, 2, 2, 4, 4, 2, 2, 2, 2, 4, 16, -4, 4):
+    word = head[at : at + abs(size)]
+    words.append(word.decode("latin-1") if size < 0 else word.hex())
+    at += abs(size)
+print(*words)
+HEAD
+)"
+levels "8 channels with a mask, and a chunk of odd size before the samples" "$room/8.wav" "$room/480.flat" \
+    < <(wav --channels 8 --samples 4800 --extended --mask 0x63f --odd-list)
+for bytes in 41 4137; do
+    levels "8 channels with a mask in a format of $bytes bytes" "$room/8.wav" "$room/480.flat" \
+        < <(wav --channels 8 --samples 4800 --extended --mask 0x63f --format-bytes $bytes)
+done
+levels "a format with a mask, and then one without: the last one counts" "$good" "$room/480.flat" \
+    < <(wav --samples 4800 --extended --mask 4 | head -c 60; tail -c +13 "$good")
+for mask in 1 4 0x100 0x10000 0x80000000 0xffffffff; do
+    wav --samples 4800 --extended --mask $mask >"$room/in.wav"
+    levels "the mask $mask" "$room/in.wav" "$room/480.flat" <"$room/in.wav"
+done
+wav --channels 8 --samples 4800 >"$room/plain.wav"
+levels "8 channels without a mask come out plain" "$room/plain.wav" "$room/480.flat" < <(wav --channels 8 --samples 4800 --extended --mask 0)
+
 # The size that the file says of its samples, from which on it counts as unknown, and the size of all in bytes 5 to 8 of the
 # head, which does not wrap.
 said() { od -An -tu4 -j "$1" -N 4 "$2" | tr -d ' '; }
-sized() { # SIZE SIZE-THAT-IS-WRITTEN SIZE-OF-ALL TOLD
-    run "$room/480.flat" < <(wav --samples 4800 --size "$1") >"$room/got" 2>"$room/err"
-    same "recording: samples of $1 bytes: what is told" "$4" "$(cat "$room/err")"
-    same "recording: samples of $1 bytes: the sizes in the head" "$2 $3" "$(said 40 "$room/got") $(said 4 "$room/got")"
-    same_file "recording: samples of $1 bytes: those that came" <(tail -c +45 "$good") <(tail -c +45 "$room/got")
+sized() { # SIZE SIZE-THAT-IS-WRITTEN SIZE-OF-ALL TOLD [BYTES-OF-THE-HEAD WORDS..]
+    local size=$1 due="$2 $3" told=$4 head=${5-44}
+    shift 4
+    run "$room/480.flat" < <(wav --samples 4800 --size "$size" "${@:2}") >"$room/got" 2>"$room/err"
+    same "recording: samples of $size bytes behind $head: what is told" "$told" "$(cat "$room/err")"
+    same "recording: samples of $size bytes behind $head: the sizes in the head" "$due" "$(said $((head - 4)) "$room/got") $(said 4 "$room/got")"
+    same_file "recording: samples of $size bytes behind $head: those that came" <(tail -c +45 "$good") <(tail -c +$((head + 1)) "$room/got")
 }
 missing() { echo "recording: the WAV file is cut: $1 bytes of its samples are missing"; }
 sized 9602 9602 9638 "$(missing 2)"
@@ -144,6 +180,10 @@ sized 2147418112 2147418112 2147418148 ""
 sized 2147483647 2147483647 2147483683 ""
 for size in 4294967258 4294967259 4294967260 4294967261 4294967294 4294967295; do
     sized $size $size $((size < 4294967259 ? size + 36 : 4294967295)) ""
+done
+sized 9602 9602 9662 "$(missing 2)" 68 --extended --mask 4
+for size in 2147483647 4294967234 4294967235 4294967236 4294967259 4294967295; do
+    sized $size $size $((size < 4294967235 ? size + 60 : 4294967295)) "" 68 --extended --mask 4
 done
 
 # A group of samples that is not whole is not written, and is not heard: the half of one at the end of these files is so

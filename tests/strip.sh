@@ -36,8 +36,95 @@ for strip in tests/strips/*.strip; do
     same_file "strip: $name" "tests/strips/$name.lines" "$room/got"
 done
 
-run <examples/service.strip >"$room/got"
+# The last act is to write the reply to descriptor 3, with no line end: the number of the refusal in the last line, and 0 where
+# there is none. Nothing is written there where a read or a write failed.
+told() { # NAME REPLY: descriptor 3 is in $room/reply
+    same_file "strip: $1: on descriptor 3" <(printf %s "$2") "$room/reply"
+}
+for strip in tests/strips/*.strip; do
+    name=$(basename "$strip" .strip)
+    run <"$strip" >"$room/got" 3>"$room/reply"
+    told "$name" "$(tail -n 1 "tests/strips/$name.lines" | awk '$2 == "R" { reply = $3 } END { print reply + 0 }')"
+done
+fails() { # NAME MESSAGE: standard error is in $room/err
+    same "strip: $1: what is told" "strip: $2" "$(cat "$room/err")"
+    told "$1" ""
+}
+run <"$paper" >/dev/full 2>"$room/err" 3>"$room/reply"
+fails "output to /dev/full" "standard output: No space left on device"
+run <tests/strips/record-2-no-number.strip >/dev/full 2>"$room/err" 3>"$room/reply"
+fails "a refusal to /dev/full" "standard output: No space left on device"
+run <"$paper" >&- 2>"$room/err" 3>"$room/reply"
+fails "closed output" "standard output: Bad file descriptor"
+run <tests/strips/head-alone.strip >&- 2>"$room/err" 3>"$room/reply"
+fails "closed output and no line to write" "standard output: Bad file descriptor"
+run <. >"$room/got" 2>"$room/err" 3>"$room/reply"
+fails "input that is a folder" "standard input: Is a directory"
+run <&- >"$room/got" 2>"$room/err" 3>"$room/reply"
+fails "closed input" "standard input: Bad file descriptor"
+# Where descriptor 3 is closed, or cannot be written, nothing else changes.
+as_ever() { # NAME STATUS
+    same "strip: $1: status and messages" "0 " "$2 $(cat "$room/err")"
+    same_file "strip: $1: the lines" "$room/paper" "$room/got"
+}
+run <"$paper" >"$room/got" 2>"$room/err" 3>&-
+as_ever "descriptor 3 is closed" $?
+run <"$paper" >"$room/got" 2>"$room/err" 3>/dev/full
+as_ever "descriptor 3 is /dev/full" $?
+
+# A desk that is live sees the line of a record as soon as it came. The strip stays open.
+within() { # COMMAND..: yes where it succeeds within a second
+    for ((i = 0; i < 100; i++)); do
+        if "$@"; then echo yes; return; fi
+        sleep 0.01
+    done
+    echo no
+}
+live() { # starts the program on a strip that descriptor 4 feeds, and gives it a head
+    rm -f "$room/live" && mkfifo "$room/live"
+    tests/run-program strip <"$room/live" >"$room/got" 2>"$room/err" 3>"$room/reply" &
+    program=$!
+    exec 4>"$room/live"
+    # The second begins when the program itself runs.
+    for ((i = 0; i < 1000; i++)); do
+        if tr '\0' '\n' <"/proc/$program/cmdline" 2>/dev/null | grep -q 'target/bin/strip$'; then break; fi
+        sleep 0.01
+    done
+    head -c 26 "$paper" >&4
+}
+record() { tail -c "+$((5 + 22 * $1))" "$paper" | head -c 22 >&4; } # NUMBER
+has_lines() { [ "$(wc -l <"$room/got")" -ge "$1" ]; } # COUNT
+is_over() { ! kill -0 "$program"; } 2>/dev/null
+live
+for number in 1 2 3; do
+    record $number
+    same "strip: a live strip: the line of record $number within a second" yes "$(within has_lines $number)"
+    same_file "strip: a live strip: the lines up to record $number" <(head -n $number "$room/paper") "$room/got"
+done
+told "a live strip that goes on" ""
+exec 4>&-
+wait "$program"
+told "a live strip that ends" 0
+same "strip: a live strip: nothing is told" "" "$(cat "$room/err")"
+live
+record 1
+printf '\0\x15' >&4
+same "strip: a live strip that is refused ends within a second" yes "$(within is_over)"
+told "a live strip that is refused" 6
+same_file "strip: a live strip that is refused: the lines" <(head -n 1 "$room/paper"; echo 2 R 6) "$room/got"
+wait "$program"
+exec 4>&-
+live
+record 1
+same "strip: a live strip whose program is killed: the first line" yes "$(within has_lines 1)"
+{ kill -KILL "$program" && wait "$program"; } 2>/dev/null
+same "strip: a live strip whose program is killed: its status" 137 $?
+exec 4>&-
+told "a live strip whose program is killed" ""
+
+run <examples/service.strip >"$room/got" 3>"$room/reply"
 same_file "strip: the example service" examples/service.lines "$room/got"
+told "the example service" 0
 same "strip: in the example the cough moves no figure" "-3825 1998 1327 1" \
     "$(sed -n 50,74p "$room/got" | cut -d' ' -f3- | sort -u)"
 
@@ -125,8 +212,9 @@ level <&- >"$room/got" 2>"$room/err"
 said "no standard input" $?
 same "strip: no standard input: no line" "" "$(cat "$room/got")"
 # Without ./level the signal that a lost reader sends ends the program.
-tests/run-program strip <"$room/long" 2>/dev/null | head -c 0
+tests/run-program strip <"$room/long" 2>/dev/null 3>"$room/reply" | head -c 0
 same "strip: a reader that is gone ends the program" 141 "${PIPESTATUS[0]}"
+told "a reader that is gone" ""
 
 # As a volunteer runs it.
 ./level strip "$paper" >"$room/got" 2>/dev/null

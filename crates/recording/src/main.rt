@@ -21,7 +21,7 @@ use strip::draw_next;
 use strip_format::Head;
 use strip_reader::Got;
 use units::replies::DONE;
-use wav_format::head::HEAD_BYTES;
+use wav_format::head::LONGEST_HEAD;
 use wave::find;
 
 // Levels the samples that were found, whose chunk says this size: the head of the levelled file, then the frames.
@@ -33,16 +33,17 @@ fn with_samples(
     search: Search,
     size: u32,
 ) {
-    let mut out = [0u8; HEAD_BYTES];
+    let mut out = [0u8; LONGEST_HEAD];
     let begun = recording_run::levelling::begin(
         head,
         search.channels,
         search.samples,
+        search.mask,
         size,
         &mut out,
     );
     if begun.reply == DONE {
-        if write(&out, HEAD_BYTES) {
+        if write(&out, begun.head) {
             let desk = Desk {
                 strip,
                 channels: search.channels,

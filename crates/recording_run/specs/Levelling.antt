@@ -11,7 +11,7 @@ use Rattle.chain.specs.declared.Chain.{Chain}
 use Rattle.strip_format.specs.declared.Head.{Head}
 use Rattle.strip_reader.specs.declared.Got.{Got}
 use Rattle.strip_reader.specs.declared.Got.the-variants as Came
-use Rattle.wav_format.specs.Head.{putHead}
+use Rattle.wav_format.specs.Head.{headLength, putHead}
 use Rattle.recording_frame.specs.Levelling.{levelled}
 use Rattle.recording_run.specs.declared.levelling.Told.{Told}
 use Rattle.recording_run.specs.declared.levelling.Told.the-variants.{Nothing, Minute, StripEnds, Refused, Missing, StripGoesOn}
@@ -44,15 +44,15 @@ pub record Beginning : Type 0 where
   pub begun : Begun
   pub out : List ℕ
 
-unfoldable pub begun : Head → ℕ → ℕ → ℕ → List ℕ → Beginning
-begun head channels samples size out =
+unfoldable pub begun : Head → ℕ → ℕ → ℕ → ℕ → List ℕ → Beginning
+begun head channels samples mask size out =
     let extent = extentOf size channels in
-    let written = putHead channels samples (extent .size) out in
+    let written = putHead channels samples mask (extent .size) out in
     let chain = made (head .settings) (head .threshold) (head .samples) .chain in
     let run : Run = record { chain = chain; number = 1; left = extent .left; more = true; well = true } in
     cond (eqb samples (head .samples))
-    (record { begun = record { reply = written .reply; known = extent .known; run = run }; out = written .out })
-    (record { begun = record { reply = badShape; known = extent .known; run = run }; out = out })
+    (record { begun = record { reply = written .reply; head = headLength mask; known = extent .known; run = run }; out = written .out })
+    (record { begun = record { reply = badShape; head = headLength mask; known = extent .known; run = run }; out = out })
 
 -- ---- a frame is heard
 -- as many bytes, all 0

@@ -12,6 +12,7 @@ use strip_reader::Got;
 use units::figures::Figures;
 use units::replies::DONE;
 use units::replies::SHAPE;
+use wav_format::head::head_bytes;
 use wav_format::head::write_head;
 
 // A size from here on is what a program writes that does not know it: the samples end where the input ends.
@@ -49,9 +50,11 @@ pub struct Extent {
     pub left: usize,
 }
 
-// A reply's number, whether it is known how many bytes of samples there are, and the run before its first frame.
+// A reply's number, how many bytes the head of the levelled file has, whether it is known how many bytes of samples there
+// are, and the run before its first frame.
 pub struct Begun {
     pub reply: u32,
+    pub head: usize,
     pub known: bool,
     pub run: Run,
 }
@@ -115,17 +118,25 @@ pub fn frame_bytes(channels: usize, samples: usize) -> usize
     }
 }
 
-// Begins a run with the head of a strip and samples of this format, whose chunk says this size: the head of the levelled
-// file in the first bytes of a lent buffer, and a new chain. Refused with 1 where the strip is for another number of
-// samples, and with what the head is refused with; nothing is written then.
-pub fn begin(head: Head, channels: usize, samples: usize, size: u32, out: &mut [u8]) -> Begun
-    ensures { λ r. ⌜ r ≡ begun head channels samples size (now (out .entry)) .begun ⌝ }
-    ensures { λ _. ⌜ now (out .exit) ≡ begun head channels samples size (now (out .entry)) .out ⌝ }
+// Begins a run with the head of a strip and samples of this format and mask, whose chunk says this size: the head of the
+// levelled file in the first bytes of a lent buffer, and a new chain. Refused with 1 where the strip is for another number
+// of samples, and with what the head is refused with; nothing is written then.
+pub fn begin(
+    head: Head,
+    channels: usize,
+    samples: usize,
+    mask: u32,
+    size: u32,
+    out: &mut [u8],
+) -> Begun
+    ensures { λ r. ⌜ r ≡ begun head channels samples mask size (now (out .entry)) .begun ⌝ }
+    ensures { λ _. ⌜ now (out .exit) ≡ begun head channels samples mask size (now (out .entry)) .out ⌝ }
 {
     let settings = head.settings;
     let made = Chain::new(settings, head.threshold, head.samples);
     let chain = made.chain;
     let extent = extent_of(size, channels);
+    let long = head_bytes(mask);
     let run = Run {
         chain,
         number: 1,
@@ -135,13 +146,15 @@ pub fn begin(head: Head, channels: usize, samples: usize, size: u32, out: &mut [
     };
     if samples == head.samples {
         Begun {
-            reply: write_head(channels, samples, extent.size, out),
+            reply: write_head(channels, samples, mask, extent.size, out),
+            head: long,
             known: extent.known,
             run,
         }
     } else {
         Begun {
             reply: SHAPE,
+            head: long,
             known: extent.known,
             run,
         }

@@ -1,15 +1,22 @@
 // Reads a strip from standard input, runs a new chain over it, and prints a line for each record as soon as it came:
 // strip_run says which. A read that fails and output that cannot be written end the run with a message on standard
-// error.
+// error. Otherwise the last that it does is to write the reply's number to descriptor 3, in decimal and with no line end: 0
+// where the strip was read to its end, and else the number of the refusal. So whoever opens that descriptor knows that all
+// lines were written; where it is closed, nothing is told.
 //
 // The memory is fixed: a strip of any length goes through.
 
 ghost use Rattle.io.specs.Counts.{Counts};
 use strip_run::Run;
+use strip_run::Verdict;
+use strip_run::verdict_of;
 use units::replies::DONE;
 
 // So many bytes are read at a time: the lines of as many records have room in 65,536 bytes.
 const BLOCK: usize = 512;
+
+// The descriptor that the reply's number is written to.
+const REPLY_FILENO: i32 = 3;
 
 // How many bytes of a block were read, none at the input's end, and whether the read went well.
 struct Filled {
@@ -42,21 +49,48 @@ fn write(lines: &[u8], reply: u32) -> bool {
     written
 }
 
+// Closes standard output where all went well so far, and answers whether that does too. A close that fails is told as a
+// write is.
+fn close_output(well: bool) -> bool {
+    if well {
+        let closed = libc::close(libc::STDOUT_FILENO);
+        if closed < 0 {
+            os::fail(b"strip: standard output");
+        }
+        0 <= closed
+    } else {
+        false
+    }
+}
+
+// Writes the reply's number, where there is one to tell.
+fn tell(verdict: Verdict) {
+    match verdict {
+        Verdict::Nothing => {}
+        Verdict::Reply(reply) => {
+            io::print_decimal(REPLY_FILENO, reply as u64);
+        }
+    }
+}
+
 // Takes the blocks one after the other. A proved loop has to end, so it counts its turns down, from a number that no
 // run uses up.
 fn main() {
     let mut block = [0u8; BLOCK];
     let mut out = io::large_buffer();
     let mut run = Run::new();
+    let mut read = true;
+    let mut written = true;
     let mut more = true;
     let mut turns = u64::MAX;
     while turns > 0 && more {
         let filled = read_block(&mut block);
         let n = filled.n;
-        if filled.well {
+        read = filled.well;
+        if read {
             let taken = run.take(&block[..n], &mut out);
             let length = taken.length;
-            let written = write(&out[..length], taken.reply);
+            written = write(&out[..length], taken.reply);
             run = taken.run;
             more = written & run.desk.more;
         } else {
@@ -64,4 +98,6 @@ fn main() {
         }
         turns -= 1;
     }
+    let closed = close_output(read & written);
+    tell(verdict_of(run, read, written, closed));
 }

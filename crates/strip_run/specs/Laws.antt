@@ -1,3 +1,4 @@
 -- What is true of the definitions beside this file.
 pub mod Room
 pub mod Cutting
+pub mod Reply

@@ -22,11 +22,12 @@ use Rattle.strip_reader.specs.Reader.{Handed, more, head, entry, end, refused}
 use Rattle.strip_reader.specs.Feeding.{handedBy}
 use Rattle.strip_run.specs.declared.Desk.{Desk}
 
--- ---- the desk: a chain, the number of what comes next, and whether the run goes on
+-- ---- the desk: a chain, the number of what comes next, whether the run goes on, and the reply's number: of the refusal that ended the run, and 0 as
+-- long as nothing is refused
 -- before the head, whose number is 0, there is no chain yet: all its fields are 0
 unfoldable pub atStart : Desk
 unfolding made unset
-atStart = record { chain = made unset 0 0 .chain; number = 0; more = true }
+atStart = record { chain = made unset 0 0 .chain; number = 0; more = true; reply = done }
 
 -- "number from 1": the number after another. It has 64 bits, and would roll over to 0
 abbrev pub after : ℕ → ℕ
@@ -44,12 +45,12 @@ unchanged d = record { desk = d; line = [] }
 -- "A refusal prints its record's number (0 for the head), R and the reply's number, and ends the run."
 unfoldable pub refusedAt : Desk → ℕ → Shown
 unfolding refusalLine
-refusedAt d reply = record { desk = record { chain = d .chain; number = d .number; more = false }; line = refusalLine (d .number) reply }
+refusedAt d reply = record { desk = record { chain = d .chain; number = d .number; more = false; reply = reply }; line = refusalLine (d .number) reply }
 
 -- ---- the head: "runs a new chain"
 unfoldable pub begunWith : Desk → Made → Shown
 unfolding refusedAt
-begunWith d m = cond (eqb (m .reply) done) (unchanged (record { chain = m .chain; number = after (d .number); more = true })) (refusedAt d (m .reply))
+begunWith d m = cond (eqb (m .reply) done) (unchanged (record { chain = m .chain; number = after (d .number); more = true; reply = d .reply })) (refusedAt d (m .reply))
 
 unfoldable pub begun : Desk → Head → Shown
 unfolding begunWith made
@@ -67,7 +68,7 @@ lined d told p =
     let refused = recordRefusal (p .level .0) (p .headroom .0) (p .gain .0) in
     cond (eqb refused done)
     (record {
-      desk = record { chain = told .chain; number = after (d .number); more = true };
+      desk = record { chain = told .chain; number = after (d .number); more = true; reply = d .reply };
       line = recordLine (d .number) (told .answer) (p .level .0) (p .headroom .0) (p .gain .0) (p .confident);
     })
     (refusedAt d refused)
@@ -101,7 +102,7 @@ shown d (head h) = begun d h
 shown d (entry (figures f)) = framed d f
 -- no version that is read has gaps: a record of length 0 is refused with 6
 shown d (entry gap) = refusedAt d badLength
-shown d end = unchanged (record { chain = d .chain; number = d .number; more = false })
+shown d end = unchanged (record { chain = d .chain; number = d .number; more = false; reply = d .reply })
 shown d (refused reply) = refusedAt d reply
 
 unfoldable pub told : Desk → Handed → Shown
@@ -113,7 +114,18 @@ unfolding told
 linesOf d [] = []
 linesOf d (h ∷ hs) = told d h .line ++ linesOf (told d h .desk) hs
 
+-- the desk after all of it
+unfoldable pub deskOf : Desk → List Handed → Desk
+unfolding told
+deskOf d [] = d
+deskOf d (h ∷ hs) = deskOf (told d h .desk) hs
+
 -- "The program `strip` reads one .., runs a new chain over silent one-channel frames, and prints for each record ..": the lines of a whole strip
 unfoldable pub lines : Version → List ℕ → List ℕ
 unfolding linesOf atStart handedBy readStrip
 lines v strip = linesOf atStart (handedBy (readStrip v strip))
+
+-- and its reply: 0 where it is read to its end, and otherwise the number of the refusal that ends it
+unfoldable pub replyOf : Version → List ℕ → ℕ
+unfolding deskOf atStart handedBy readStrip
+replyOf v strip = deskOf atStart (handedBy (readStrip v strip)) .reply

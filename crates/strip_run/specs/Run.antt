@@ -1,5 +1,5 @@
 -- A run over a strip that comes in blocks: what a block makes of it, and what each call answers. Definitions only.
-use mathlib.Core.Bool.{false, cond}
+use mathlib.Core.Bool.{Bool, false, _&&_, not, cond}
 use mathlib.Core.List.{List, [], _∷_, _++_}
 use Prim.Native.Nat.{ℕ, _/_}
 use lib.Dec.{ltb}
@@ -13,6 +13,8 @@ use Rattle.strip_run.specs.declared.Desk.{Desk}
 use Rattle.strip_run.specs.declared.Run.{Run}
 use Rattle.strip_run.specs.declared.Line.{Line}
 use Rattle.strip_run.specs.declared.Taken.{Taken}
+use Rattle.strip_run.specs.declared.Verdict.{Verdict}
+use Rattle.strip_run.specs.declared.Verdict.the-variants.{Nothing, Reply}
 
 -- a run that has seen no byte
 unfoldable pub new : Run
@@ -39,7 +41,7 @@ unfoldable pub ended : Run → Ran
 unfolding finished told
 ended r =
     let t = told (r .desk) (finished (r .reader)) in
-    record { run = record { reader = r .reader; desk = record { chain = t .desk .chain; number = t .desk .number; more = false } }; lines = t .line }
+    record { run = record { reader = r .reader; desk = record { chain = t .desk .chain; number = t .desk .number; more = false; reply = t .desk .reply } }; lines = t .line }
 
 -- a block; an empty one is the strip's end
 unfoldable pub taken : Version → Run → List ℕ → Ran
@@ -52,6 +54,12 @@ unfoldable pub takenBlocks : Version → Run → List (List ℕ) → List ℕ
 unfolding taken
 takenBlocks v r [] = taken v r [] .lines
 takenBlocks v r (block ∷ blocks) = taken v r block .lines ++ takenBlocks v (taken v r block .run) blocks
+
+-- and the run after them
+unfoldable pub runAfter : Version → Run → List (List ℕ) → Run
+unfolding taken
+runAfter v r [] = taken v r [] .run
+runAfter v r (block ∷ blocks) = runAfter v (taken v r block .run) blocks
 
 -- ---- what a call answers: a buffer that cannot hold a line for each byte of the block and one more is refused with 8, and nothing changes
 unfoldable pub takenOf : Version → Run → List ℕ → ℕ → Taken
@@ -71,3 +79,7 @@ lineOf s = record { desk = s .desk; length = length (s .line) }
 
 abbrev pub lineOut : Shown → List ℕ → List ℕ
 lineOut s out = s .line ++ drop (length (s .line)) out
+
+-- ---- the end: whoever started the program is told the reply of a run that has ended, and nothing where a read, a write or the close of the output failed
+unfoldable pub verdictOf : Run → Bool → Bool → Bool → Verdict
+verdictOf r read written closed = cond (read && written && closed && not (r .desk .more)) (Reply (r .desk .reply)) Nothing

@@ -10,7 +10,7 @@ ghost use Rattle.strip_lines.specs.Lines.{longest};
 ghost use Rattle.strip_reader.specs.Reader.{handed};
 ghost use Rattle.strip_run.specs.Lines.{atStart, refusedAt, begun, silence, published, answered, framed, shown};
 ghost use Rattle.strip_run.specs.Lines as Printed;
-ghost use Rattle.strip_run.specs.Run.{new, ran, ended, takenOf, outOf, lineOf, lineOut};
+ghost use Rattle.strip_run.specs.Run.{new, ran, ended, takenOf, outOf, lineOf, lineOut, verdictOf};
 use chain::Chain;
 use chain::Next;
 use std::num::wrapping_add_u64;
@@ -28,11 +28,13 @@ use units::settings::Settings;
 // The largest number of samples that a channel has.
 const SAMPLES: usize = 480;
 
-// The chain, the number of what comes next, 0 for the head, and whether the run goes on.
+// The chain, the number of what comes next, 0 for the head, whether the run goes on, and the reply's number: of the refusal
+// that ended the run, and 0 as long as nothing is refused.
 pub struct Desk {
     pub chain: Chain,
     pub number: u64,
     pub more: bool,
+    pub reply: u32,
 }
 
 // How far a run is: the reader of the strip, and the desk.
@@ -55,6 +57,12 @@ pub struct Taken {
     pub length: usize,
 }
 
+// What whoever started the program is told at its end: nothing, or the reply's number of the run.
+pub enum Verdict {
+    Nothing,
+    Reply(u32),
+}
+
 // Ends a run with the line of a refusal.
 fn refuse(desk: Desk, reply: u32, out: &mut [u8]) -> Line
     requires { ⌜ longest ≤ length (now out) ⌝ }
@@ -68,6 +76,7 @@ fn refuse(desk: Desk, reply: u32, out: &mut [u8]) -> Line
             chain,
             number: desk.number,
             more: false,
+            reply,
         },
         length: line.length,
     }
@@ -124,6 +133,7 @@ fn publish(desk: Desk, next: Next, out: &mut [u8]) -> Line
                     chain,
                     number: wrapping_add_u64(desk.number, 1),
                     more: true,
+                    reply: desk.reply,
                 },
                 length: line.length,
             }
@@ -170,6 +180,7 @@ fn begin(desk: Desk, head: Head, out: &mut [u8]) -> Line
                 chain,
                 number: wrapping_add_u64(desk.number, 1),
                 more: true,
+                reply: desk.reply,
             },
             length: 0,
         }
@@ -195,6 +206,7 @@ fn show(desk: Desk, got: Got, out: &mut [u8]) -> Line
                     chain,
                     number: desk.number,
                     more: false,
+                    reply: desk.reply,
                 },
                 length: 0,
             }
@@ -262,9 +274,24 @@ fn finish(run: Run, out: &mut [u8]) -> Taken
                 chain,
                 number: last.number,
                 more: false,
+                reply: last.reply,
             },
         },
         length: line.length,
+    }
+}
+
+// What is told at the end, where each read went well, each write did, and the close of the output: the reply of a run that
+// has ended. Where one of them failed, and of a run that goes on, nothing is told.
+pub fn verdict_of(run: Run, read: bool, written: bool, closed: bool) -> Verdict
+    ensures { λ r. ⌜ r ≡ verdictOf run read written closed ⌝ }
+{
+    let desk = run.desk;
+    let over = read & written & closed & !desk.more;
+    if over {
+        Verdict::Reply(desk.reply)
+    } else {
+        Verdict::Nothing
     }
 }
 
@@ -282,6 +309,7 @@ impl Run {
                 chain,
                 number: 0,
                 more: true,
+                reply: DONE,
             },
         }
     }

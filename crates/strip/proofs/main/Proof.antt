@@ -16,10 +16,10 @@ use Rattle.strip.proofs.main.Statement.{statement}
 use Rattle.strip.proofs.main.Tie as tie
 
 abbrev Inv-loop : tie.InvT-loop
-Inv-loop block₀ out₀ run₀ more₀ turns₀ block out run more turns = (length block ≡ 512) × (length out ≡ 65536)
+Inv-loop block₀ out₀ run₀ read₀ written₀ more₀ turns₀ block out run read written more turns = (length block ≡ 512) × (length out ≡ 65536)
 
 abbrev μ-loop : tie.MeasureT-loop
-μ-loop block₀ out₀ run₀ more₀ turns₀ block out run more turns = turns
+μ-loop block₀ out₀ run₀ read₀ written₀ more₀ turns₀ block out run read written more turns = turns
 
 large-buffer-requires : tie.Need-large-buffer-requires Inv-loop μ-loop
 large-buffer-requires c κs = search needs
@@ -78,11 +78,17 @@ loop-less c = search needs
 loop-again : tie.Need-loop-again Inv-loop μ-loop
 loop-again c = (search needs, ⊎-elim (λ w. search needs) (λ w. search needs) (c .if2 .came))
 
+close-output-requires : tie.Need-close-output-requires Inv-loop μ-loop
+close-output-requires c κs = search needs
+
+verdict-of-requires : tie.Need-verdict-of-requires Inv-loop μ-loop
+verdict-of-requires c κs = search needs
+
+tell-requires : tie.Need-tell-requires Inv-loop μ-loop
+tell-requires c κs = search needs
+
 returns : tie.Need-returns Inv-loop μ-loop
 returns c = search needs
-
-returns-2 : tie.Need-returns-2 Inv-loop μ-loop
-returns-2 c = search needs
 
 pub main-spec : {M : Type 1} → statement M
 main-spec =
@@ -105,5 +111,7 @@ main-spec =
     sub-turns
     loop-less
     loop-again
-    returns
-    returns-2)
+    close-output-requires
+    verdict-of-requires
+    tell-requires
+    returns)

@@ -1,4 +1,4 @@
--- What a run prints over blocks is what the whole strip prints, however it is cut. Laws.
+-- What a run prints over blocks is what the whole strip prints, however it is cut, and so is its reply. Laws.
 -- Assumes nothing.
 use mathlib.Core.Path.{_≡_, refl, sym, ap, _∙_}
 use mathlib.Core.Bool.{Bool, true, false, cond}
@@ -14,16 +14,10 @@ use Rattle.strip_reader.specs.Reader.{Handed, more, isMore, fed, finished, fres
 use Rattle.strip_reader.specs.Feeding.{joins, feed, feedBlocks, whole, handedOut, handedBy}
 use Rattle.strip_reader.specs.Laws.Steps.{is-more}
 use Rattle.strip_reader.specs.Laws.Whole.{any-cutting}
-use Rattle.strip_run.specs.Lines.{Shown, atStart, unchanged, shown, told, linesOf, lines}
-use Rattle.strip_run.specs.Run.{new, Ran, ran, ended, taken, takenBlocks}
+use Rattle.strip_run.specs.Lines.{Shown, atStart, unchanged, shown, told, linesOf, deskOf, lines, replyOf}
+use Rattle.strip_run.specs.Run.{new, Ran, ran, ended, taken, takenBlocks, runAfter}
 use Rattle.strip_run.specs.declared.Desk.{Desk}
 use Rattle.strip_run.specs.declared.Run.{Run}
-
--- the desk after all that was handed out
-unfoldable deskAfter : Desk → List Handed → Desk
-unfolding told
-deskAfter d [] = d
-deskAfter d (h ∷ hs) = deskAfter (told d h .desk) hs
 
 -- Nothing yet changes nothing.
 told-more : (d : Desk) → told d more ≡ unchanged d
@@ -42,29 +36,34 @@ lines-joins d h hs = go (isMore h) refl
     go true e = sym (ap (λ (s : Shown). s .line ++ linesOf (s .desk) hs) (ap (told d) (is-more h e) ∙ told-more d))
     go false e = refl
 
-desk-joins : (d : Desk) (h : Handed) (hs : List Handed) → deskAfter d (joins h hs) ≡ deskAfter (told d h .desk) hs
-unfolding joins deskAfter
+desk-joins : (d : Desk) (h : Handed) (hs : List Handed) → deskOf d (joins h hs) ≡ deskOf (told d h .desk) hs
+unfolding joins deskOf
 desk-joins d h hs = go (isMore h) refl
   where
-    go : (b : Bool) → isMore h ≡ b → deskAfter d (cond b hs (h ∷ hs)) ≡ deskAfter (told d h .desk) hs
-    go true e = sym (ap (λ (s : Shown). deskAfter (s .desk) hs) (ap (told d) (is-more h e) ∙ told-more d))
+    go : (b : Bool) → isMore h ≡ b → deskOf d (cond b hs (h ∷ hs)) ≡ deskOf (told d h .desk) hs
+    go true e = sym (ap (λ (s : Shown). deskOf (s .desk) hs) (ap (told d) (is-more h e) ∙ told-more d))
     go false e = refl
 
-lines-append : (d : Desk) (xs ys : List Handed) → linesOf d (xs ++ ys) ≡ linesOf d xs ++ linesOf (deskAfter d xs) ys
-unfolding linesOf deskAfter
+lines-append : (d : Desk) (xs ys : List Handed) → linesOf d (xs ++ ys) ≡ linesOf d xs ++ linesOf (deskOf d xs) ys
+unfolding linesOf deskOf
 lines-append d [] ys = refl
 lines-append d (x ∷ xs) ys =
     ap (λ (l : List ℕ). told d x .line ++ l) (lines-append (told d x .desk) xs ys)
-    ∙ sym (append-assoc (told d x .line) (linesOf (told d x .desk) xs) (linesOf (deskAfter (told d x .desk) xs) ys))
+    ∙ sym (append-assoc (told d x .line) (linesOf (told d x .desk) xs) (linesOf (deskOf (told d x .desk) xs) ys))
+
+desk-append : (d : Desk) (xs ys : List Handed) → deskOf d (xs ++ ys) ≡ deskOf (deskOf d xs) ys
+unfolding deskOf
+desk-append d [] ys = refl
+desk-append d (x ∷ xs) ys = desk-append (told d x .desk) xs ys
 
 -- What a run prints is what is handed out, told one after the other.
 ran-is : (v : Version) (r : Run) (bytes : List ℕ)
     → ran v r bytes
     ≡ record {
-      run = record { reader = feed v (r .reader) bytes .reader; desk = deskAfter (r .desk) (feed v (r .reader) bytes .out) };
+      run = record { reader = feed v (r .reader) bytes .reader; desk = deskOf (r .desk) (feed v (r .reader) bytes .out) };
       lines = linesOf (r .desk) (feed v (r .reader) bytes .out);
     }
-unfolding ran feed deskAfter linesOf
+unfolding ran feed deskOf linesOf
 ran-is v r [] = refl
 ran-is v r (b ∷ bs) =
     let f = fed v (r .reader) b in
@@ -94,11 +93,49 @@ blocks-print v r (block ∷ blocks) some =
     let g = feedBlocks v (f .reader) blocks in
     let last = joins (finished (g .reader)) [] in
     ap (λ (x : Ran). x .lines ++ takenBlocks v (x .run) blocks) (taken-is v r block (some .0) ∙ ran-is v r block)
-    ∙ ap (λ (l : List ℕ). linesOf (r .desk) (f .out) ++ l) (blocks-print v (record { reader = f .reader; desk = deskAfter (r .desk) (f .out) }) blocks (some .1))
+    ∙ ap (λ (l : List ℕ). linesOf (r .desk) (f .out) ++ l) (blocks-print v (record { reader = f .reader; desk = deskOf (r .desk) (f .out) }) blocks (some .1))
     ∙ sym (ap (linesOf (r .desk)) (append-assoc (f .out) (g .out) last) ∙ lines-append (r .desk) (f .out) (g .out ++ last))
+
+blocks-reply : (v : Version) (r : Run) (blocks : List (List ℕ)) → Each (λ (block : List ℕ). 0 < length block) blocks
+    → runAfter v r blocks .desk .reply ≡ deskOf (r .desk) (feedBlocks v (r .reader) blocks .out ++ joins (finished (feedBlocks v (r .reader) blocks .reader)) []) .reply
+unfolding runAfter feedBlocks taken ended deskOf Each
+blocks-reply v r [] some = sym (ap (λ (d : Desk). d .reply) (desk-joins (r .desk) (finished (r .reader)) []))
+blocks-reply v r (block ∷ blocks) some =
+    let f = feed v (r .reader) block in
+    let g = feedBlocks v (f .reader) blocks in
+    let last = joins (finished (g .reader)) [] in
+    ap (λ (x : Ran). runAfter v (x .run) blocks .desk .reply) (taken-is v r block (some .0) ∙ ran-is v r block)
+    ∙ blocks-reply v (record { reader = f .reader; desk = deskOf (r .desk) (f .out) }) blocks (some .1)
+    ∙ sym (ap (λ (d : Desk). d .reply) (ap (deskOf (r .desk)) (append-assoc (f .out) (g .out) last) ∙ desk-append (r .desk) (f .out) (g .out ++ last)))
 
 -- Whatever the cutting into blocks, the lines are those of the whole strip.
 pub any-cutting-prints : (v : Version) → size (headFields v) ≤ room → size recordFields ≤ room → (blocks : List (List ℕ)) → Each (λ (block : List ℕ). 0 < length block) blocks
     → takenBlocks v new blocks ≡ lines v (whole blocks)
 unfolding new lines handedOut
 any-cutting-prints v fits small blocks some = blocks-print v new blocks some ∙ ap (linesOf atStart) (any-cutting v fits small blocks)
+
+-- And so is the reply.
+pub any-cutting-replies : (v : Version) → size (headFields v) ≤ room → size recordFields ≤ room → (blocks : List (List ℕ)) → Each (λ (block : List ℕ). 0 < length block) blocks
+    → runAfter v new blocks .desk .reply ≡ replyOf v (whole blocks)
+unfolding new replyOf handedOut
+any-cutting-replies v fits small blocks some = blocks-reply v new blocks some ∙ ap (λ (hs : List Handed). deskOf atStart hs .reply) (any-cutting v fits small blocks)
+
+-- ---- a run that has ended may stop there: whatever comes after it prints nothing, and leaves the reply
+told-over : (d : Desk) (h : Handed) → d .more ≡ false → told d h ≡ unchanged d
+unfolding told
+told-over d h e = rw e
+
+lines-over : (d : Desk) (hs : List Handed) → d .more ≡ false → linesOf d hs ≡ []
+unfolding linesOf
+lines-over d [] e = refl
+lines-over d (h ∷ hs) e = rw (told-over d h e) (lines-over d hs e)
+
+desk-over : (d : Desk) (hs : List Handed) → d .more ≡ false → deskOf d hs ≡ d
+unfolding deskOf
+desk-over d [] e = refl
+desk-over d (h ∷ hs) e = rw (told-over d h e) (desk-over d hs e)
+
+pub ended-stays : (v : Version) (r : Run) (blocks : List (List ℕ)) → Each (λ (block : List ℕ). 0 < length block) blocks → r .desk .more ≡ false
+    → (takenBlocks v r blocks ≡ []) × (runAfter v r blocks .desk .reply ≡ r .desk .reply)
+ended-stays v r blocks some e =
+    (blocks-print v r blocks some ∙ lines-over (r .desk) _ e, blocks-reply v r blocks some ∙ ap (λ (d : Desk). d .reply) (desk-over (r .desk) _ e))

@@ -44,7 +44,7 @@ refused-most d reply = refusal-line-fits (d .number) reply
 begun-most : (d : Desk) (m : Made) → Roomy (begunWith d m)
 unfolding begunWith
 begun-most d m =
-    let next : Desk = record { chain = m .chain; number = after (d .number); more = true } in
+    let next : Desk = record { chain = m .chain; number = after (d .number); more = true; reply = d .reply } in
     either (eqb (m .reply) done) (unchanged next) (refusedAt d (m .reply)) (none next) (refused-most d (m .reply))
 
 lined-most : (d : Desk) (t : Told) (p : Published) → Roomy (lined d t p)
@@ -52,7 +52,7 @@ unfolding lined
 lined-most d t p =
     let bad = recordRefusal (p .level .0) (p .headroom .0) (p .gain .0) in
     let line = recordLine (d .number) (t .answer) (p .level .0) (p .headroom .0) (p .gain .0) (p .confident) in
-    either (eqb bad done) (record { desk = record { chain = t .chain; number = after (d .number); more = true }; line = line }) (refusedAt d bad)
+    either (eqb bad done) (record { desk = record { chain = t .chain; number = after (d .number); more = true; reply = d .reply }; line = line }) (refusedAt d bad)
     (record-line-fits (d .number) (t .answer) (p .level .0) (p .headroom .0) (p .gain .0) (p .confident)) (refused-most d bad)
 
 published-most : (d : Desk) (t : Told) (r : Reading) → Roomy (publishedWith d t r)
@@ -75,7 +75,7 @@ shown-most d more = none d
 shown-most d (head h) = begun-most d (made (h .settings) (h .threshold) (h .samples))
 shown-most d (entry (figures f)) = framed-most d f (samplesTold (d .chain))
 shown-most d (entry gap) = refused-most d badLength
-shown-most d end = none (record { chain = d .chain; number = d .number; more = false })
+shown-most d end = none (record { chain = d .chain; number = d .number; more = false; reply = d .reply })
 shown-most d (refused reply) = refused-most d reply
 
 pub told-most : (d : Desk) (h : Handed) → length (told d h .line) ≤ longest

@@ -23,11 +23,11 @@ new-requires c κs = search needs
 new-requires-2 : tie.Need-new-requires-2
 new-requires-2 c κs = search needs
 
-new-is : (s : Settings) (m : Made) (r : Reader) → s ≡ unset → m ≡ made s 0 0 → r ≡ fresh → _≡_ {A = Run} (record { reader = r; desk = record { chain = m .chain; number = 0; more = true } }) new
+new-is : (s : Settings) (m : Made) (r : Reader) → s ≡ unset → m ≡ made s 0 0 → r ≡ fresh → _≡_ {A = Run} (record { reader = r; desk = record { chain = m .chain; number = 0; more = true; reply = 0 } }) new
 unfolding new atStart
 new-is s m r e f g =
-    ap {B = Run} (λ (x : Made). record { reader = r; desk = record { chain = x .chain; number = 0; more = true } }) (f ∙ ap (λ (x : Settings). made x 0 0) e)
-    ∙ ap {B = Run} (λ (x : Reader). record { reader = x; desk = record { chain = made unset 0 0 .chain; number = 0; more = true } }) g
+    ap {B = Run} (λ (x : Made). record { reader = r; desk = record { chain = x .chain; number = 0; more = true; reply = 0 } }) (f ∙ ap (λ (x : Settings). made x 0 0) e)
+    ∙ ap {B = Run} (λ (x : Reader). record { reader = x; desk = record { chain = made unset 0 0 .chain; number = 0; more = true; reply = 0 } }) g
 
 returns : tie.Need-returns
 returns c = new-is _ (c .before .before .new .result) _ (c .before .before .before .unset .ensures) (c .before .before .new .ensures) (c .new2 .ensures)
