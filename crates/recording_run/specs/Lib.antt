@@ -3,4 +3,5 @@ pub mod Input
 pub mod Wave
 pub mod Strip
 pub mod Levelling
+pub mod Answer
 pub mod Laws

@@ -2,6 +2,7 @@
 // WAV file begin, what becomes of a frame and of the run, and what is told. The program itself only reads, writes and
 // tells.
 
+pub mod answer;
 pub mod input;
 pub mod levelling;
 pub mod strip;
