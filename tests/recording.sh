@@ -117,8 +117,9 @@ levels() { # NAME DUE STRIP: the file is standard input, nothing is told, and DU
 }
 alike() { levels "$1" "$good" "$room/480.flat"; }
 alike "a whole number of frames" <"$good"
-alike "an extended format" < <(wav --samples 4800 --extended)
+alike "an extended format without a mask comes out plain" < <(wav --samples 4800 --extended)
 alike "an extended format, and a chunk of odd size before the samples" < <(wav --samples 4800 --extended --odd-list)
+alike "a plain format of 40 bytes, which says no mask" < <(wav --samples 4800 --format-bytes 40)
 for size in 17 18 19; do alike "a format of $size bytes" < <(wav --samples 4800 --format-bytes $size); done
 for size in 41 4135 4136 4137; do alike "an extended format of $size bytes" < <(wav --samples 4800 --extended --format-bytes $size); done
 alike "chunks after the samples" < <(wav --samples 4800 --late)
@@ -141,15 +142,50 @@ for channels in 1 2 3 8; do
     levels "$channels channels, and a short last frame" "$room/in.wav" "$room/80.flat" <"$room/in.wav"
 done
 
+# The mask, which says the speakers that the channels are for, is kept: the head is then an extended one. The bytes of the
+# one for the speakers of 7.1: the size of all, the format of 40 bytes, its tag, 8 channels, the rate, the bytes a second, 16
+# bytes a group, 16 bits; 22 bytes more, 16 bits, the mask, the own tag; and the size of the samples.
+wav --channels 8 --samples 4800 --extended --mask 0x63f >"$room/8.wav"
+levels "8 channels with a mask: every byte as it was" "$room/8.wav" "$room/480.flat" <"$room/8.wav"
+same "recording: 8 channels with a mask: the head" \
+    "RIFF 3c2c0100 WAVEfmt  28000000 feff 0800 80bb0000 00b80b00 1000 1000 1600 1000 3f060000 0100000000001000800000aa00389b71 data 002c0100" \
+    "$(python3 - "$room/got" <<'HEAD'
+import sys
+head = open(sys.argv[1], "rb").read(68)
+at, words = 0, []
+for size in (-4, 4, -8, 4, 2, 2, 4, 4, 2, 2, 2, 2, 4, 16, -4, 4):
+    word = head[at : at + abs(size)]
+    words.append(word.decode("latin-1") if size < 0 else word.hex())
+    at += abs(size)
+print(*words)
+HEAD
+)"
+levels "8 channels with a mask, and a chunk of odd size before the samples" "$room/8.wav" "$room/480.flat" \
+    < <(wav --channels 8 --samples 4800 --extended --mask 0x63f --odd-list)
+for bytes in 41 4137; do
+    levels "8 channels with a mask in a format of $bytes bytes" "$room/8.wav" "$room/480.flat" \
+        < <(wav --channels 8 --samples 4800 --extended --mask 0x63f --format-bytes $bytes)
+done
+levels "a format with a mask, and then one without: the last one counts" "$good" "$room/480.flat" \
+    < <(wav --samples 4800 --extended --mask 4 | head -c 60; tail -c +13 "$good")
+for mask in 1 4 0x100 0x10000 0x80000000 0xffffffff; do
+    wav --samples 4800 --extended --mask $mask >"$room/in.wav"
+    levels "the mask $mask" "$room/in.wav" "$room/480.flat" <"$room/in.wav"
+done
+wav --channels 8 --samples 4800 >"$room/plain.wav"
+levels "8 channels without a mask come out plain" "$room/plain.wav" "$room/480.flat" < <(wav --channels 8 --samples 4800 --extended --mask 0)
+
 # The size that the file says of its samples, and the size of all in bytes 5 to 8 of the head, which does not wrap. Every size
 # is known but the two that programs write to a pipe.
 said() { od -An -tu4 -j "$1" -N 4 "$2" | tr -d ' '; }
-sizes() { echo "$(said 40 "$1") $(said 4 "$1")"; } # FILE
-sized() { # SIZE SIZE-THAT-IS-WRITTEN SIZE-OF-ALL TOLD
-    kept "$room/480.flat" < <(wav --samples 4800 --size "$1")
-    same "recording: samples of $1 bytes: what is told, and said at the end" "$4 $(end_of "$4")" "$(cat "$room/err") $(cat "$room/end")"
-    same "recording: samples of $1 bytes: the sizes in the head" "$2 $3" "$(sizes "$room/got")"
-    same_file "recording: samples of $1 bytes: those that came" <(tail -c +45 "$good") <(tail -c +45 "$room/got")
+sizes() { echo "$(said $((${2:-44} - 4)) "$1") $(said 4 "$1")"; } # FILE [BYTES-OF-THE-HEAD]
+sized() { # SIZE SIZE-THAT-IS-WRITTEN SIZE-OF-ALL TOLD [BYTES-OF-THE-HEAD WORDS..]
+    local size=$1 due="$2 $3" told=$4 head=${5-44}
+    shift 4
+    kept "$room/480.flat" < <(wav --samples 4800 --size "$size" "${@:2}")
+    same "recording: samples of $size bytes behind $head: what is told, and said at the end" "$told $(end_of "$told")" "$(cat "$room/err") $(cat "$room/end")"
+    same "recording: samples of $size bytes behind $head: the sizes in the head" "$due" "$(sizes "$room/got" "$head")"
+    same_file "recording: samples of $size bytes behind $head: those that came" <(tail -c +45 "$good") <(tail -c +$((head + 1)) "$room/got")
 }
 missing() { echo "recording: the WAV file is cut: $1 bytes of its samples are missing"; }
 sized 9602 9602 9638 "$(missing 2)"
@@ -161,9 +197,15 @@ done
 for size in 2147418111 2147479551 2147479553 2147483647 4294967259 4294967293; do
     sized $size $((size - 1)) $((size - 1 < 4294967259 ? size + 35 : 4294967295)) "$(missing $((size - 9601)))"
 done
+sized 9602 9602 9662 "$(missing 2)" 68 --extended --mask 4
+for size in 2147483646 4294967234 4294967236 4294967258 4294967294; do
+    sized $size $size $((size < 4294967235 ? size + 60 : 4294967295)) "$(missing $((size - 9600)))" 68 --extended --mask 4
+done
 # What sox and ffmpeg write to a pipe.
 sized 2147479552 2147479552 2147479588 ""
 sized 4294967295 4294967295 4294967295 ""
+sized 2147479552 2147479552 2147479612 "" 68 --extended --mask 4
+sized 4294967295 4294967295 4294967295 "" 68 --extended --mask 4
 # sox writes whole groups: of these channels so many bytes. Two bytes, or a group, more or fewer are known.
 piped() { # CHANNELS SIZE SIZE-THAT-IS-WRITTEN TOLD
     wav --rate 8000 --channels "$1" --samples 800 >"$room/in.wav"

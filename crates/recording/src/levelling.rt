@@ -22,18 +22,19 @@ use recording_run::levelling::put_right;
 use recording_run::levelling::take_entry;
 use recording_run::levelling::told_at_end;
 use recording_run::strip::Source;
-use wav_format::head::HEAD_BYTES;
+use wav_format::head::LONGEST_HEAD;
 
 // The most bytes that a frame has.
 const MOST_BYTES: usize = 7680;
 
 // What stays the same from frame to frame: where the strip is read and the levelled file is written, the channels, the
-// samples of a channel, and the size that the file says of all samples.
+// samples of a channel, the mask, and the size that the file says of all samples.
 pub(crate) struct Desk {
     pub strip: i32,
     pub out: i32,
     pub channels: usize,
     pub samples: usize,
+    pub mask: u32,
     pub size: u32,
 }
 
@@ -112,7 +113,7 @@ fn right_head(desk: Desk, run: Run) -> bool {
     if desk.out == libc::STDOUT_FILENO {
         true
     } else {
-        let mut head = [0u8; HEAD_BYTES];
+        let mut head = [0u8; LONGEST_HEAD];
         let n = put_right(run, desk.channels, desk.samples, desk.size, &mut head);
         if 0 < n {
             write_first(desk.out, &head, n)

@@ -27,7 +27,7 @@ use strip::draw_next;
 use strip_format::Head;
 use strip_reader::Got;
 use units::replies::DONE;
-use wav_format::head::HEAD_BYTES;
+use wav_format::head::LONGEST_HEAD;
 use wave::find;
 
 // Levels the samples that were found, whose chunk says this size: the head of the levelled file, then the frames. The output
@@ -41,11 +41,12 @@ fn with_samples(
     search: Search,
     size: u32,
 ) {
-    let mut bytes = [0u8; HEAD_BYTES];
+    let mut bytes = [0u8; LONGEST_HEAD];
     let begun = recording_run::levelling::begin(
         head,
         search.channels,
         search.samples,
+        search.mask,
         size,
         &mut bytes,
     );
@@ -57,10 +58,11 @@ fn with_samples(
                 out,
                 channels: search.channels,
                 samples: search.samples,
+                mask: search.mask,
                 size,
             };
             let first = begun.run;
-            let run = after_write(first, write(out, &bytes, HEAD_BYTES));
+            let run = after_write(first, write(out, &bytes, begun.head));
             let both = Both { run, source };
             told::at_end(level(desk, block, both));
         }

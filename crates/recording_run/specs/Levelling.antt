@@ -11,7 +11,7 @@ use Rattle.chain.specs.declared.Chain.{Chain}
 use Rattle.strip_format.specs.declared.Head.{Head}
 use Rattle.strip_reader.specs.declared.Got.{Got}
 use Rattle.strip_reader.specs.declared.Got.the-variants as Came
-use Rattle.wav_format.specs.Head.{putHead}
+use Rattle.wav_format.specs.Head.{headLength, putHead}
 use Rattle.recording_frame.specs.Levelling.{levelled}
 use Rattle.recording_run.specs.declared.levelling.Told.{Told}
 use Rattle.recording_run.specs.declared.levelling.Told.the-variants.{Nothing, Minute, StripEnds, Refused, Missing, SaysNone, StripGoesOn}
@@ -44,15 +44,15 @@ pub record Beginning : Type 0 where
   pub begun : Begun
   pub out : List ℕ
 
-unfoldable pub begun : Head → ℕ → ℕ → ℕ → List ℕ → Beginning
-begun head channels samples size out =
+unfoldable pub begun : Head → ℕ → ℕ → ℕ → ℕ → List ℕ → Beginning
+begun head channels samples mask size out =
     let extent = extentOf size channels in
-    let written = putHead channels samples (extent .size) out in
+    let written = putHead channels samples mask (extent .size) out in
     let chain = made (head .settings) (head .threshold) (head .samples) .chain in
     let run : Run = record { chain = chain; number = 1; left = extent .left; more = true; well = true; refused = 0 } in
     cond (eqb samples (head .samples))
-    (record { begun = record { reply = written .reply; run = run }; out = written .out })
-    (record { begun = record { reply = badShape; run = run }; out = out })
+    (record { begun = record { reply = written .reply; head = headLength mask; run = run }; out = written .out })
+    (record { begun = record { reply = badShape; head = headLength mask; run = run }; out = out })
 
 -- ---- a frame is heard
 -- as many bytes, all 0
@@ -134,16 +134,20 @@ atEnd run size channels behind rest =
 abbrev pub writtenBytes : Run → ℕ → ℕ → ℕ
 writtenBytes run size channels = extentOf size channels .left - run .left
 
+-- the most bytes of samples of which four bytes say how many follow the first eight of the file
+abbrev pub mostSamples : ℕ → ℕ
+mostSamples mask = 4294967295 - (headLength mask - 8)
+
 -- a head that is put right: how many of its bytes are written, and the buffer
 pub record Righted : Type 0 where
   pub n : ℕ
   pub out : List ℕ
 
--- after a run that went well, where another size is true than the head says, and 32 bits say it and what follows the first eight bytes
-unfoldable pub righted : Run → ℕ → ℕ → ℕ → List ℕ → Righted
-righted run channels samples size out =
+-- after a run that went well, where another size is true than the head says, and the head has room for it
+unfoldable pub righted : Run → ℕ → ℕ → ℕ → ℕ → List ℕ → Righted
+righted run channels samples mask size out =
     let written = writtenBytes run size channels in
-    let head = putHead channels samples written out in
-    cond (leb written 4294967259 && (run .well && not (eqb written (extentOf size channels .size))))
-    (record { n = cond (eqb (head .reply) done) 44 0; out = head .out })
+    let head = putHead channels samples mask written out in
+    cond (leb written (mostSamples mask) && (run .well && not (eqb written (extentOf size channels .size))))
+    (record { n = cond (eqb (head .reply) done) (headLength mask) 0; out = head .out })
     (record { n = 0; out = out })

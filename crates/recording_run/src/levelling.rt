@@ -12,7 +12,7 @@ use strip_reader::Got;
 use units::figures::Figures;
 use units::replies::DONE;
 use units::replies::SHAPE;
-use wav_format::head::HEAD_BYTES;
+use wav_format::head::head_bytes;
 use wav_format::head::write_head;
 
 // What a program writes that does not know the size of its samples, since it writes to a pipe: ffmpeg the first, and sox as
@@ -21,8 +21,10 @@ const STREAM: u32 = 0xffff_ffff;
 
 const PIPE: usize = 0x7fff_f000;
 
-// The most bytes of samples with which 32 bits say how many bytes follow the first eight of a file.
-const MOST_SAMPLES: usize = 4294967259;
+// The largest number that four bytes say, and the bytes of a file that stand before the size of all that follows them.
+const MOST: usize = 4294967295;
+
+const SIZED_BYTES: usize = 8;
 
 // So many frames are a minute.
 const MINUTE: u64 = 6000;
@@ -59,9 +61,10 @@ pub struct Extent {
     pub left: usize,
 }
 
-// A reply's number, and the run before its first frame.
+// A reply's number, how many bytes the head of the levelled file has, and the run before its first frame.
 pub struct Begun {
     pub reply: u32,
+    pub head: usize,
     pub run: Run,
 }
 
@@ -124,17 +127,25 @@ pub fn frame_bytes(channels: usize, samples: usize) -> usize
     }
 }
 
-// Begins a run with the head of a strip and samples of this format, whose chunk says this size: the head of the levelled
-// file in the first bytes of a lent buffer, and a new chain. Refused with 1 where the strip is for another number of
-// samples, and with what the head is refused with; nothing is written then.
-pub fn begin(head: Head, channels: usize, samples: usize, size: u32, out: &mut [u8]) -> Begun
-    ensures { λ r. ⌜ r ≡ begun head channels samples size (now (out .entry)) .begun ⌝ }
-    ensures { λ _. ⌜ now (out .exit) ≡ begun head channels samples size (now (out .entry)) .out ⌝ }
+// Begins a run with the head of a strip and samples of this format and mask, whose chunk says this size: the head of the
+// levelled file in the first bytes of a lent buffer, and a new chain. Refused with 1 where the strip is for another number
+// of samples, and with what the head is refused with; nothing is written then.
+pub fn begin(
+    head: Head,
+    channels: usize,
+    samples: usize,
+    mask: u32,
+    size: u32,
+    out: &mut [u8],
+) -> Begun
+    ensures { λ r. ⌜ r ≡ begun head channels samples mask size (now (out .entry)) .begun ⌝ }
+    ensures { λ _. ⌜ now (out .exit) ≡ begun head channels samples mask size (now (out .entry)) .out ⌝ }
 {
     let settings = head.settings;
     let made = Chain::new(settings, head.threshold, head.samples);
     let chain = made.chain;
     let extent = extent_of(size, channels);
+    let long = head_bytes(mask);
     let run = Run {
         chain,
         number: 1,
@@ -145,11 +156,16 @@ pub fn begin(head: Head, channels: usize, samples: usize, size: u32, out: &mut [
     };
     if samples == head.samples {
         Begun {
-            reply: write_head(channels, samples, extent.size, out),
+            reply: write_head(channels, samples, mask, extent.size, out),
+            head: long,
             run,
         }
     } else {
-        Begun { reply: SHAPE, run }
+        Begun {
+            reply: SHAPE,
+            head: long,
+            run,
+        }
     }
 }
 
@@ -323,17 +339,26 @@ pub fn told_at_end(run: Run, size: u32, channels: usize, behind: usize, rest: us
 
 // The head with the size that is true at the end of a run over samples whose chunk says this size, in the first bytes of a
 // lent buffer, and how many bytes of it are to be written: none, where the run did not go well, where the head that was
-// written is true, and where 32 bits do not say the sizes. The buffer stays as it was then.
-pub fn put_right(run: Run, channels: usize, samples: usize, size: u32, out: &mut [u8]) -> usize
-    ensures { λ r. ⌜ r ≡ righted run channels samples size (now (out .entry)) .n ⌝ }
-    ensures { λ _. ⌜ now (out .exit) ≡ righted run channels samples size (now (out .entry)) .out ⌝ }
+// written is true, and where four bytes do not say how many bytes follow the first eight. The buffer stays as it was then.
+pub fn put_right(
+    run: Run,
+    channels: usize,
+    samples: usize,
+    mask: u32,
+    size: u32,
+    out: &mut [u8],
+) -> usize
+    ensures { λ r. ⌜ r ≡ righted run channels samples mask size (now (out .entry)) .n ⌝ }
+    ensures { λ _. ⌜ now (out .exit) ≡ righted run channels samples mask size (now (out .entry)) .out ⌝ }
 {
+    let long = head_bytes(mask);
+    let most = less(MOST, less(long, SIZED_BYTES));
     let extent = extent_of(size, channels);
     let written = less(extent.left, run.left);
-    if written <= MOST_SAMPLES {
+    if written <= most {
         if run.well & !(written == extent.size as usize) {
-            let reply = write_head(channels, samples, written as u32, out);
-            floats::pick_usize(reply == DONE, HEAD_BYTES, 0)
+            let reply = write_head(channels, samples, mask, written as u32, out);
+            floats::pick_usize(reply == DONE, long, 0)
         } else {
             0
         }
