@@ -10,6 +10,16 @@ use recording_run::input::after_read;
 use recording_run::input::empty;
 use recording_run::levelling::behind_bytes;
 
+// The most bytes that a frame has.
+const MOST_BYTES: usize = 7680;
+
+// Room for the bytes of a frame.
+pub(crate) fn room() -> [u8; MOST_BYTES]
+    ensures { λ r. ⌜ 7680 ≡ length r ⌝ }
+{
+    [0; MOST_BYTES]
+}
+
 // As many bytes of a buffer as asked, and never more than it has.
 pub(crate) fn within(n: usize, buffer: &[u8]) -> usize
     ensures { λ r. ⌜ Counts r (now (buffer .entry)) ⌝ }

@@ -1,9 +1,8 @@
 // The frames of the recording through the chain, one after the other.
 
-ghost use mathlib.Core.Path.{_≡_};
-ghost use lib.ListN.{length};
 use crate::input::fill_some;
 use crate::input::look_behind;
+use crate::input::room;
 use crate::output::close;
 use crate::output::write;
 use crate::output::write_first;
@@ -23,9 +22,6 @@ use recording_run::levelling::take_entry;
 use recording_run::levelling::told_at_end;
 use recording_run::strip::Source;
 use wav_format::head::LONGEST_HEAD;
-
-// The most bytes that a frame has.
-const MOST_BYTES: usize = 7680;
 
 // What stays the same from frame to frame: where the strip is read and the levelled file is written, the channels, the
 // samples of a channel, the mask, and the size that the file says of all samples.
@@ -93,13 +89,6 @@ fn take_frames(desk: Desk, block: &mut [u8], bytes: &mut [u8], both: Both) -> Bo
     now
 }
 
-// Room for the bytes of a frame.
-fn room() -> [u8; MOST_BYTES]
-    ensures { λ r. ⌜ 7680 ≡ length r ⌝ }
-{
-    [0; MOST_BYTES]
-}
-
 // Takes all frames.
 fn take_all(desk: Desk, block: &mut [u8], both: Both) -> Both {
     let mut bytes = room();
@@ -114,7 +103,14 @@ fn right_head(desk: Desk, run: Run) -> bool {
         true
     } else {
         let mut head = [0u8; LONGEST_HEAD];
-        let n = put_right(run, desk.channels, desk.samples, desk.size, &mut head);
+        let n = put_right(
+            run,
+            desk.channels,
+            desk.samples,
+            desk.mask,
+            desk.size,
+            &mut head,
+        );
         if 0 < n {
             write_first(desk.out, &head, n)
         } else {

@@ -2,6 +2,9 @@
 // that the first word names, and writes the levelled WAV file to standard output, or to the file that a second word names.
 // Whatever ends it before is told on standard error, and so is each minute.
 //
+// Without a word it meters the WAV file: to standard output it writes twelve bytes, and then twelve for each 10 ms, as the
+// crate `loudness` has them.
+//
 // A program has no exit status. The last that it does where all went well is to write 0 to descriptor 3, and where the strip
 // was refused, the number of the refusal; in every other case it writes nothing there.
 //
@@ -9,6 +12,7 @@
 
 mod input;
 mod levelling;
+mod metering;
 mod output;
 mod strip;
 mod told;
@@ -17,6 +21,7 @@ mod wave;
 use levelling::Both;
 use levelling::Desk;
 use levelling::level;
+use metering::meter_samples;
 use output::write;
 use recording_run::answer::of_refusal;
 use recording_run::levelling::after_write;
@@ -110,9 +115,22 @@ fn open_strip() -> i32 {
     }
 }
 
+// Meters the recording. A search that is over has found samples, or is told.
+fn without_strip() {
+    let search = find();
+    let stage = search.stage;
+    match stage {
+        Stage::Start | Stage::Chunk | Stage::Format(_) | Stage::Skip(_) => {}
+        Stage::Samples(size) => told::at_end(meter_samples(search, size)),
+        Stage::Over(fault) => told::of_search(fault),
+    }
+}
+
 fn main() {
     let words = os::arg_count();
-    if (words == 2) | (words == 3) {
+    if words <= 1 {
+        without_strip();
+    } else if words <= 3 {
         let strip = open_strip();
         if 0 <= strip {
             with_strip(strip, words == 3);

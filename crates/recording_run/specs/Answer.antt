@@ -5,6 +5,7 @@ use lib.Dec.{ltb}
 use Rattle.recording_run.specs.declared.levelling.Told.{Told}
 use Rattle.recording_run.specs.declared.levelling.Told.the-variants.{Nothing, Minute, StripEnds, Refused, Missing, SaysNone, StripGoesOn}
 use Rattle.recording_run.specs.declared.levelling.Run.{Run}
+use Rattle.recording_run.specs.declared.metering.Meter.{Meter}
 use Rattle.recording_run.specs.declared.answer.Answer.{Answer}
 
 -- whether nothing is told
@@ -29,3 +30,7 @@ refusalAnswer reply = record { tell = ltb 0 reply; reply = reply }
 unfoldable pub runAnswer : Run → Told → Bool → Bool → Answer
 runAnswer run told failed written =
     cond (ltb 0 (run .refused)) (refusalAnswer (run .refused)) (record { tell = allWell (run .well) told failed written; reply = 0 })
+
+-- of a metering: 0 where all went well, or nothing
+unfoldable pub meterAnswer : Meter → Told → Bool → Bool → Answer
+meterAnswer meter told failed written = record { tell = allWell (meter .well) told failed written; reply = 0 }

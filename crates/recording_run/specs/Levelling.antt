@@ -121,14 +121,18 @@ afterWrite run written =
 abbrev pub behindBytes : ℕ → ℕ
 behindBytes size = cond (eqb size 0) 1 0
 
--- what is told of a run that went well, where so many bytes come behind the samples, and the strip has so many more
+-- what is told of samples of which so many bytes did not come, where so many come behind them, and otherwise
+unfoldable pub ofSamples : ℕ → ℕ → ℕ → ℕ → Told → Told
+ofSamples size channels left behind other =
+    cond (extentOf size channels .known && ltb 0 left) (Missing left) (cond (eqb size 0 && ltb 0 behind) SaysNone other)
+
+-- what is told of a strip that has so many bytes more
+unfoldable pub ofRest : ℕ → ℕ → Told
+ofRest rest number = cond (ltb 0 rest) (StripGoesOn number) Nothing
+
+-- what is told of a run that went well: first of the samples, then of the strip
 unfoldable pub atEnd : Run → ℕ → ℕ → ℕ → ℕ → Told
-atEnd run size channels behind rest =
-    cond (run .well)
-    (cond (extentOf size channels .known && ltb 0 (run .left)) (Missing (run .left))
-    (cond (eqb size 0 && ltb 0 behind) SaysNone
-    (cond (ltb 0 rest) (StripGoesOn (run .number)) Nothing)))
-    Nothing
+atEnd run size channels behind rest = cond (run .well) (ofSamples size channels (run .left) behind (ofRest rest (run .number))) Nothing
 
 -- how many bytes of samples were written
 abbrev pub writtenBytes : Run → ℕ → ℕ → ℕ

@@ -2,9 +2,10 @@
 // refused; or nothing.
 
 ghost use mathlib.Core.Path.{_≡_};
-ghost use Rattle.recording_run.specs.Answer.{isNothing, allWell, refusalAnswer, runAnswer};
+ghost use Rattle.recording_run.specs.Answer.{isNothing, allWell, refusalAnswer, runAnswer, meterAnswer};
 use crate::levelling::Run;
 use crate::levelling::Told;
+use crate::metering::Meter;
 
 // Whether anything is said, and the number: 0 where all went well, otherwise the reply of a refusal.
 pub struct Answer {
@@ -27,7 +28,7 @@ fn is_nothing(told: Told) -> bool
     }
 }
 
-// Whether all went well, to the end: the frames did, nothing is told at the end, no read failed there, and all is written.
+// Whether all went well, to the end: all frames did, nothing is told at the end, no read failed there, and all is written.
 fn all_well(well: bool, told: Told, failed: bool, written: bool) -> bool
     ensures { λ r. ⌜ r ≡ allWell well told failed written ⌝ }
 {
@@ -56,5 +57,15 @@ pub fn of_run(run: Run, told: Told, failed: bool, written: bool) -> Answer
             tell: all_well(run.well, told, failed, written),
             reply: 0,
         }
+    }
+}
+
+// Of a metering, in the same way: there is no strip that is refused.
+pub fn of_metering(meter: Meter, told: Told, failed: bool, written: bool) -> Answer
+    ensures { λ r. ⌜ r ≡ meterAnswer meter told failed written ⌝ }
+{
+    Answer {
+        tell: all_well(meter.well, told, failed, written),
+        reply: 0,
     }
 }

@@ -2,7 +2,7 @@
 
 ghost use mathlib.Core.Path.{_≡_};
 ghost use Prim.Native.Nat.{_≤_};
-ghost use Rattle.recording_run.specs.Levelling.{wholeGroups, isUnknown, extentOf, frameBytes, begun, silenced, heard, minute, stopped, framed, entered, afterWrite, behindBytes, atEnd, righted};
+ghost use Rattle.recording_run.specs.Levelling.{wholeGroups, isUnknown, extentOf, frameBytes, begun, silenced, heard, minute, stopped, framed, entered, afterWrite, behindBytes, ofSamples, ofRest, atEnd, righted};
 use crate::input::less;
 use chain::Chain;
 use recording_frame::level_bytes;
@@ -314,24 +314,53 @@ pub fn behind_bytes(size: u32) -> usize
     floats::pick_usize(size == 0, 1, 0)
 }
 
+// What is told of samples whose chunk says this size, where so many bytes did not come, and so many come behind them, of
+// those that were looked for: that bytes are missing, where it is known how many there are; that the file says that it has
+// none and goes on behind them; otherwise what else there is to tell.
+pub(crate) fn told_of_samples(
+    size: u32,
+    channels: usize,
+    left: usize,
+    behind: usize,
+    other: Told,
+) -> Told
+    ensures { λ r. ⌜ r ≡ ofSamples size channels left behind other ⌝ }
+{
+    let extent = extent_of(size, channels);
+    if extent.known & (0 < left) {
+        Told::Missing(left)
+    } else if (size == 0) & (0 < behind) {
+        Told::SaysNone
+    } else {
+        other
+    }
+}
+
+// What is told of a strip that has so many bytes more, of which the next record has this number.
+fn told_of_rest(rest: usize, number: u64) -> Told
+    ensures { λ r. ⌜ r ≡ ofRest rest number ⌝ }
+{
+    if 0 < rest {
+        Told::StripGoesOn(number)
+    } else {
+        Told::Nothing
+    }
+}
+
 // What is told at the end of a run over samples whose chunk says this size, where so many bytes come behind them, of those
-// that were looked for, and the strip has so many more: that bytes of the samples are missing, where it is known how many
-// there are; that the file says that it has none and goes on behind them; or that the strip goes on. Of a run that did
-// not go well all is told.
+// that were looked for, and the strip has so many more: first of the samples, then that the strip goes on. Of a run that
+// did not go well all is told.
 pub fn told_at_end(run: Run, size: u32, channels: usize, behind: usize, rest: usize) -> Told
     ensures { λ r. ⌜ r ≡ atEnd run size channels behind rest ⌝ }
 {
-    let extent = extent_of(size, channels);
     if run.well {
-        if extent.known & (0 < run.left) {
-            Told::Missing(run.left)
-        } else if (size == 0) & (0 < behind) {
-            Told::SaysNone
-        } else if 0 < rest {
-            Told::StripGoesOn(run.number)
-        } else {
-            Told::Nothing
-        }
+        told_of_samples(
+            size,
+            channels,
+            run.left,
+            behind,
+            told_of_rest(rest, run.number),
+        )
     } else {
         Told::Nothing
     }
