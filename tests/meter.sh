@@ -208,13 +208,19 @@ tail -c +$((45 + 9600)) "$room/in.wav" >&4
 exec 4>&-
 wait $!
 same "meter: and the rest, and it ends well" "0 22" "$? $(wc -l <"$room/got")"
-tools/meter <"$room/sound" 2>/dev/null | tools/strip-maker to-strip >"$room/got" &
+# The whole desk live: the sound goes to the meter and to the leveller, and the strip from one to the other.
+mkfifo "$room/copy" "$room/strip"
+tee "$room/copy" <"$room/sound" | tests/run-program recording "$room/strip" >"$room/got" 2>"$room/err" &
+leveller=$!
+tools/meter <"$room/copy" 2>/dev/null | tools/strip-maker to-strip >"$room/strip" &
 exec 4>"$room/sound"
 head -c $((44 + 9600)) "$room/in.wav" >&4
-waits has_bytes 246 "$room/got"
-same "meter: ten records are in the strip as soon as their sound came" 246 "$(wc -c <"$room/got")"
+waits has_bytes 9644 "$room/got"
+same "meter: metered and levelled live, ten frames come out as soon as they came in" 9644 "$(wc -c <"$room/got")"
+tail -c +$((45 + 9600)) "$room/in.wav" >&4
 exec 4>&-
-wait $!
+wait $leveller
+same "meter: and the rest" "19244 " "$(wc -c <"$room/got") $(cat "$room/err")"
 
 # ---- an hour of stereo
 cost() { # COMMAND..: the seconds of a processor that it takes, and the megabytes
