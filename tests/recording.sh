@@ -20,6 +20,12 @@ flat() { # RECORDS SAMPLES
     { echo "head threshold 4 samples $2 initial-gain 0" && yes "0 -60 -60 -60 -60" | head -n "$1"; } | tools/strip-maker to-strip
 }
 run() { tests/run-program recording "$@"; }
+# Runs it on standard input, and keeps what it writes, what it tells, and what it says at the end on descriptor 3.
+kept() { run "$@" >"$room/got" 2>"$room/err" 3>"$room/end"; }
+# What it says at the end where this was told: 0 where nothing was, the number of a refusal, otherwise nothing.
+end_of() { # LINES
+    if [ -z "$1" ]; then echo 0; else sed -n 's/^recording: the strip is refused with \([0-9]*\) at .*/\1/p' <<<"$1"; fi
+}
 for samples in 40 160 480; do strip 10 "$samples" >"$room/$samples.strip"; done
 for samples in 80 480; do flat 10 "$samples" >"$room/$samples.flat"; done
 
@@ -28,24 +34,32 @@ for samples in 80 480; do flat 10 "$samples" >"$room/$samples.flat"; done
 wav --rate 4000 --channels 2 --samples 1015 --odd-list --seed 3 >"$room/stored"
 same_file "recording: the stored WAV file is the maker's" "$room/stored" crates/recording/stdin
 stored=crates/recording/data/service.strip
-run $stored <crates/recording/stdin >"$room/got" 2>"$room/err"
+kept $stored <crates/recording/stdin
 same "recording: it ends with status 0" 0 $?
 same_file "recording: the stored WAV file" crates/recording/stdout "$room/got"
-same "recording: nothing is told" "" "$(cat "$room/err")"
+same "recording: nothing is told, and 0 is said at the end" " 0" "$(cat "$room/err") $(cat "$room/end")"
 
 # What is refused: one line each, and not a byte of a recording.
 refuses() { # NAME LINE WORDS..: the file is standard input
     local name=$1 line=$2
     shift 2
-    run "$@" >"$room/got" 2>"$room/err"
+    kept "$@"
     same "recording: $name" "recording: $line" "$(cat "$room/err")"
     same "recording: $name: nothing is written" 0 "$(wc -c <"$room/got")"
+    same "recording: $name: what is said at the end" "$(end_of "recording: $line")" "$(cat "$room/end")"
 }
 good=$room/good.wav
 wav --samples 4800 >"$good"
-refuses "no argument" "it takes one word, the path of a strip: recording STRIP < in.wav > out.wav" <"$good"
-refuses "two arguments" "it takes one word, the path of a strip: recording STRIP < in.wav > out.wav" "$room/480.strip" more <"$good"
+words="it takes the path of a strip, and may take that of the levelled file: recording STRIP [OUT] < in.wav"
+refuses "three words" "$words" "$room/480.strip" "$room/out.wav" more <"$good"
+refuses "four words" "$words" "$room/480.strip" "$room/out.wav" more more <"$good"
+same "recording: too many words: no output is made" no "$([ -e "$room/out.wav" ] && echo yes || echo no)"
 refuses "no such strip" "the strip: No such file or directory" "$room/nothing" <"$good"
+refuses "an empty word" "the strip: No such file or directory" "" <"$good"
+for bytes in 4096 4097 9000; do
+    refuses "a path of $bytes bytes" "the strip: File name too long" "$(printf "%${bytes}s" "" | tr ' ' a)" <"$good"
+    refuses "a path of the output of $bytes bytes" "the output: File name too long" "$room/480.strip" "$(printf "%${bytes}s" "" | tr ' ' a)" <"$good"
+done
 refuses "a folder in place of the strip" "the strip: Is a directory" "$room" <"$good"
 refuses "a strip that is cut in its head" "the strip is refused with 5 at its head" <(head -c 20 "$room/480.strip") <"$good"
 refuses "a strip of another version" "the strip is refused with 7 at its head" "$good" <"$good"
@@ -71,16 +85,17 @@ refuses "a group of samples that is too long" "the samples of the channels do no
 refuses "no channel" "the sound has 0 channels: 1 to 8 can be levelled" "$room/480.strip" < <(wav --channels 0)
 refuses "nine channels" "the sound has 9 channels: 1 to 8 can be levelled" "$room/480.strip" < <(wav --channels 9)
 for rate in 44100 22050 2000 50000 96000; do
-    refuses "$rate Hz" "10 ms at $rate Hz are no whole frame: 8000, 12000, 16000, 24000, 32000 or 48000 Hz can be levelled" \
+    refuses "$rate Hz" "10 ms at $rate Hz are no whole frame: 8000, 12000, 16000, 24000, 32000 or 48000 Hz can be levelled: sox in.wav -r 48000 out.wav makes such a file" \
         "$room/480.strip" < <(wav --rate $rate)
 done
 refuses "another rate than the strip's" "the strip has 480 samples a frame, and the recording 160" "$room/480.strip" < <(wav --rate 16000)
 
 # What ends it on the way: what came before it is written.
 stops() { # NAME LINE BYTES STRIP: the file is standard input; BYTES are those of the samples
-    run "$4" >"$room/got" 2>"$room/err"
+    kept "$4"
     same "recording: $1" "recording: $2" "$(cat "$room/err")"
     same "recording: $1: what came before it is written" "$((44 + $3))" "$(wc -c <"$room/got")"
+    same "recording: $1: what is said at the end" "$(end_of "recording: $2")" "$(cat "$room/end")"
 }
 wav --samples 4800 --short 1000 >"$room/cut.wav"
 stops "a recording that is cut" "the WAV file is cut: 1000 bytes of its samples are missing" 8600 "$room/480.strip" <"$room/cut.wav"
@@ -96,14 +111,15 @@ stops "a record whose figure is no number" "the strip is refused with 2 at recor
 
 # However the file says what it is: the samples come out the same. With the flat strip they are those that went in.
 levels() { # NAME DUE STRIP: the file is standard input, nothing is told, and DUE is what is written
-    run "$3" >"$room/got" 2>"$room/err"
-    same "recording: $1: nothing is told" "" "$(cat "$room/err")"
+    kept "$3"
+    same "recording: $1: nothing is told, and 0 is said at the end" " 0" "$(cat "$room/err") $(cat "$room/end")"
     same_file "recording: $1" "$2" "$room/got"
 }
 alike() { levels "$1" "$good" "$room/480.flat"; }
 alike "a whole number of frames" <"$good"
-alike "an extended format" < <(wav --samples 4800 --extended)
+alike "an extended format without a mask comes out plain" < <(wav --samples 4800 --extended)
 alike "an extended format, and a chunk of odd size before the samples" < <(wav --samples 4800 --extended --odd-list)
+alike "a plain format of 40 bytes, which says no mask" < <(wav --samples 4800 --format-bytes 40)
 for size in 17 18 19; do alike "a format of $size bytes" < <(wav --samples 4800 --format-bytes $size); done
 for size in 41 4135 4136 4137; do alike "an extended format of $size bytes" < <(wav --samples 4800 --extended --format-bytes $size); done
 alike "chunks after the samples" < <(wav --samples 4800 --late)
@@ -126,33 +142,108 @@ for channels in 1 2 3 8; do
     levels "$channels channels, and a short last frame" "$room/in.wav" "$room/80.flat" <"$room/in.wav"
 done
 
-# The size that the file says of its samples, from which on it counts as unknown, and the size of all in bytes 5 to 8 of the
-# head, which does not wrap.
+# The mask, which says the speakers that the channels are for, is kept: the head is then an extended one. The bytes of the
+# one for the speakers of 7.1: the size of all, the format of 40 bytes, its tag, 8 channels, the rate, the bytes a second, 16
+# bytes a group, 16 bits; 22 bytes more, 16 bits, the mask, the own tag; and the size of the samples.
+wav --channels 8 --samples 4800 --extended --mask 0x63f >"$room/8.wav"
+levels "8 channels with a mask: every byte as it was" "$room/8.wav" "$room/480.flat" <"$room/8.wav"
+same "recording: 8 channels with a mask: the head" \
+    "RIFF 3c2c0100 WAVEfmt  28000000 feff 0800 80bb0000 00b80b00 1000 1000 1600 1000 3f060000 0100000000001000800000aa00389b71 data 002c0100" \
+    "$(python3 - "$room/got" <<'HEAD'
+import sys
+head = open(sys.argv[1], "rb").read(68)
+at, words = 0, []
+for size in (-4, 4, -8, 4, 2, 2, 4, 4, 2, 2, 2, 2, 4, 16, -4, 4):
+    word = head[at : at + abs(size)]
+    words.append(word.decode("latin-1") if size < 0 else word.hex())
+    at += abs(size)
+print(*words)
+HEAD
+)"
+levels "8 channels with a mask, and a chunk of odd size before the samples" "$room/8.wav" "$room/480.flat" \
+    < <(wav --channels 8 --samples 4800 --extended --mask 0x63f --odd-list)
+for bytes in 41 4137; do
+    levels "8 channels with a mask in a format of $bytes bytes" "$room/8.wav" "$room/480.flat" \
+        < <(wav --channels 8 --samples 4800 --extended --mask 0x63f --format-bytes $bytes)
+done
+levels "a format with a mask, and then one without: the last one counts" "$good" "$room/480.flat" \
+    < <(wav --samples 4800 --extended --mask 4 | head -c 60; tail -c +13 "$good")
+for mask in 1 4 0x100 0x10000 0x80000000 0xffffffff; do
+    wav --samples 4800 --extended --mask $mask >"$room/in.wav"
+    levels "the mask $mask" "$room/in.wav" "$room/480.flat" <"$room/in.wav"
+done
+wav --channels 8 --samples 4800 >"$room/plain.wav"
+levels "8 channels without a mask come out plain" "$room/plain.wav" "$room/480.flat" < <(wav --channels 8 --samples 4800 --extended --mask 0)
+
+# The size that the file says of its samples, and the size of all in bytes 5 to 8 of the head, which does not wrap. Every size
+# is known but the two that programs write to a pipe.
 said() { od -An -tu4 -j "$1" -N 4 "$2" | tr -d ' '; }
-sized() { # SIZE SIZE-THAT-IS-WRITTEN SIZE-OF-ALL TOLD
-    run "$room/480.flat" < <(wav --samples 4800 --size "$1") >"$room/got" 2>"$room/err"
-    same "recording: samples of $1 bytes: what is told" "$4" "$(cat "$room/err")"
-    same "recording: samples of $1 bytes: the sizes in the head" "$2 $3" "$(said 40 "$room/got") $(said 4 "$room/got")"
-    same_file "recording: samples of $1 bytes: those that came" <(tail -c +45 "$good") <(tail -c +45 "$room/got")
+sizes() { echo "$(said $((${2:-44} - 4)) "$1") $(said 4 "$1")"; } # FILE [BYTES-OF-THE-HEAD]
+sized() { # SIZE SIZE-THAT-IS-WRITTEN SIZE-OF-ALL TOLD [BYTES-OF-THE-HEAD WORDS..]
+    local size=$1 due="$2 $3" told=$4 head=${5-44}
+    shift 4
+    kept "$room/480.flat" < <(wav --samples 4800 --size "$size" "${@:2}")
+    same "recording: samples of $size bytes behind $head: what is told, and said at the end" "$told $(end_of "$told")" "$(cat "$room/err") $(cat "$room/end")"
+    same "recording: samples of $size bytes behind $head: the sizes in the head" "$due" "$(sizes "$room/got" "$head")"
+    same_file "recording: samples of $size bytes behind $head: those that came" <(tail -c +45 "$good") <(tail -c +$((head + 1)) "$room/got")
 }
 missing() { echo "recording: the WAV file is cut: $1 bytes of its samples are missing"; }
 sized 9602 9602 9638 "$(missing 2)"
 sized 9603 9602 9638 "$(missing 2)"
-sized 2147418110 2147418110 2147418146 "$(missing 2147408510)"
-sized 2147418111 2147418110 2147418146 "$(missing 2147408510)"
-sized 2147418112 2147418112 2147418148 ""
-sized 2147483647 2147483647 2147483683 ""
-for size in 4294967258 4294967259 4294967260 4294967261 4294967294 4294967295; do
-    sized $size $size $((size < 4294967259 ? size + 36 : 4294967295)) ""
+# From 0x7fff0000 on, around 0x7ffff000, at 0x80000000 and up to 0xfffffffe they are known.
+for size in 2147418110 2147418112 2147479550 2147479554 2147483646 2147483648 4294967258 4294967260 4294967294; do
+    sized $size $size $((size < 4294967259 ? size + 36 : 4294967295)) "$(missing $((size - 9600)))"
 done
+for size in 2147418111 2147479551 2147479553 2147483647 4294967259 4294967293; do
+    sized $size $((size - 1)) $((size - 1 < 4294967259 ? size + 35 : 4294967295)) "$(missing $((size - 9601)))"
+done
+sized 9602 9602 9662 "$(missing 2)" 68 --extended --mask 4
+for size in 2147483646 4294967234 4294967236 4294967258 4294967294; do
+    sized $size $size $((size < 4294967235 ? size + 60 : 4294967295)) "$(missing $((size - 9600)))" 68 --extended --mask 4
+done
+# What sox and ffmpeg write to a pipe.
+sized 2147479552 2147479552 2147479588 ""
+sized 4294967295 4294967295 4294967295 ""
+sized 2147479552 2147479552 2147479612 "" 68 --extended --mask 4
+sized 4294967295 4294967295 4294967295 "" 68 --extended --mask 4
+# sox writes whole groups: of these channels so many bytes. Two bytes, or a group, more or fewer are known.
+piped() { # CHANNELS SIZE SIZE-THAT-IS-WRITTEN TOLD
+    wav --rate 8000 --channels "$1" --samples 800 >"$room/in.wav"
+    kept "$room/80.flat" < <(wav --rate 8000 --channels "$1" --samples 800 --size "$2")
+    same "recording: $1 channels of $2 bytes: what is told, and said at the end" "$4 $(end_of "$4")" "$(cat "$room/err") $(cat "$room/end")"
+    same "recording: $1 channels of $2 bytes: the size in the head" "$3" "$(said 40 "$room/got")"
+    same_file "recording: $1 channels of $2 bytes: those that came" <(tail -c +45 "$room/in.wav") <(tail -c +45 "$room/got")
+}
+for both in "1 2147479552" "2 2147479552" "3 2147479548" "4 2147479552" "5 2147479550" "6 2147479548" "7 2147479544" "8 2147479552"; do
+    read -r channels size <<<"$both"
+    piped "$channels" "$size" "$size" ""
+    piped "$channels" $((size - 2 * channels)) $((size - 2 * channels)) "$(missing $((size - 2 * channels - 1600 * channels)))"
+    piped "$channels" $((size + 2 * channels)) $((size + 2 * channels)) "$(missing $((size + 2 * channels - 1600 * channels)))"
+done
+piped 3 2147479552 2147479548 "$(missing $((2147479548 - 4800)))"
+
+# A file that says that it has no samples, and goes on behind them.
+none="recording: the WAV file says that it has no samples, and goes on behind them: was its head never put right? (sox --ignore-length reads such a file)"
+flat 0 480 >"$room/none.flat"
+behind() { # NAME TOLD STRIP: the file is standard input
+    kept "$3"
+    same "recording: $1: what is told, and said at the end" "$2 $(end_of "$2")" "$(cat "$room/err") $(cat "$room/end")"
+    same_file "recording: $1: a head without samples" <(wav --samples 0) "$room/got"
+}
+behind "a file without samples" "" "$room/none.flat" < <(wav --samples 0)
+behind "a size of 0, and samples" "$none" "$room/480.flat" < <(wav --samples 4800 --size 0)
+behind "a size of 0, and samples, and no record" "$none" "$room/none.flat" < <(wav --samples 4800 --size 0)
+behind "a size of 0, and one byte more" "$none" "$room/none.flat" < <(wav --samples 0; printf x)
+behind "a size of 0, and a chunk" "$none" "$room/none.flat" < <(wav --samples 0 --late)
+behind "a size of 1, which is no sample" "" "$room/none.flat" < <(wav --samples 0 --size 1; printf 'x\0')
 
 # A group of samples that is not whole is not written, and is not heard: the half of one at the end of these files is so
 # loud that the limiter would take the samples before it back.
 loud() { wav --rate 8000 --channels 2 --samples 794 --seed 5 --loud 20000 --last 32767 "$@"; }
 loud --short 4 | tail -c +45 >"$room/before"
 half() { # NAME SIZE-THAT-IS-WRITTEN TOLD: the file is standard input
-    run "$room/80.flat" >"$room/got" 2>"$room/err"
-    same "recording: $1: what is told" "$3" "$(cat "$room/err")"
+    kept "$room/80.flat"
+    same "recording: $1: what is told, and said at the end" "$3 $(end_of "$3")" "$(cat "$room/err") $(cat "$room/end")"
     same "recording: $1: the size in the head" "$2" "$(said 40 "$room/got")"
     same_file "recording: $1: the whole groups of samples, as they were" "$room/before" <(tail -c +45 "$room/got")
 }
@@ -166,41 +257,45 @@ done
 wav --rate 8000 --samples 14800 >"$room/185.wav"
 for records in 184 185 186 187; do
     flat $records 80 >"$room/blocks.strip"
-    run "$room/blocks.strip" <"$room/185.wav" >"$room/got" 2>"$room/err"
+    kept "$room/blocks.strip" <"$room/185.wav"
     told=""
     [ $records -lt 185 ] && told="recording: the strip ends before the recording, which goes on with frame 185"
     [ $records -gt 185 ] && told="recording: the recording ends before the strip, which goes on with record 186"
-    same "recording: a strip of $records records for 185 frames: what is told" "$told" "$(cat "$room/err")"
+    same "recording: a strip of $records records for 185 frames: what is told, and said at the end" "$told $(end_of "$told")" "$(cat "$room/err") $(cat "$room/end")"
     same_file "recording: a strip of $records records for 185 frames" <(head -c $((44 + 160 * (records < 185 ? records : 185))) "$room/185.wav") "$room/got"
 done
 
-# A read of standard input that fails on the way, since it would have to wait: it is told, once, and the frames that came
-# whole are written.
-fails() { # NAME FRAMES: the bytes that come before it are those of descriptor 3
-    python3 - "$room/480.flat" <<'FAILS' >"$room/got" 2>"$room/err"
+# A read of standard input that fails on the way, since it would have to wait: it is told, once, the frames that came
+# whole are written, and nothing is said at the end.
+fails() { # NAME FRAMES STRIP: the bytes that come before it are standard input
+    cat >"$room/bytes"
+    python3 - "$room/bytes" "$3" <<'FAILS' >"$room/got" 2>"$room/err" 3>"$room/end"
 import os, subprocess, sys
 source, sink = os.pipe()
 os.set_blocking(source, False)
-os.write(sink, open("/dev/fd/3", "rb").read())
-subprocess.run(["tests/run-program", "recording", sys.argv[1]], stdin=source)
+os.write(sink, open(sys.argv[1], "rb").read())
+subprocess.run(["tests/run-program", "recording", sys.argv[2]], stdin=source, pass_fds=[3])
 FAILS
     same "recording: $1: what is told" "recording: standard input: Resource temporarily unavailable" "$(cat "$room/err")"
-    same_file "recording: $1: what came before it" <([ "$2" = none ] || head -c $((44 + 960 * $2)) "$good") "$room/got"
+    same "recording: $1: nothing is said at the end" "" "$(cat "$room/end")"
+    same_file "recording: $1: what came before it" <([ "$2" = none ] || head -c $((44 + 960 * $2)) "${4:-$good}") "$room/got"
 }
-fails "a read that fails in the start" none 3< <(head -c 5 "$good")
-fails "a read that fails in a chunk's head" none 3< <(head -c 40 "$good")
-fails "a read that fails in the format" none 3< <(head -c 30 "$good")
-fails "a read that fails in a chunk that is skipped" none 3< <(wav --odd-list | head -c 50)
-fails "a read that fails before the samples" 0 3< <(head -c 44 "$good")
-fails "a read that fails between two frames" 3 3< <(head -c $((44 + 2880)) "$good")
-fails "a read that fails in a frame" 3 3< <(head -c $((44 + 2900)) "$good")
+fails "a read that fails in the start" none "$room/480.flat" < <(head -c 5 "$good")
+fails "a read that fails in a chunk's head" none "$room/480.flat" < <(head -c 40 "$good")
+fails "a read that fails in the format" none "$room/480.flat" < <(head -c 30 "$good")
+fails "a read that fails in a chunk that is skipped" none "$room/480.flat" < <(wav --odd-list | head -c 50)
+fails "a read that fails before the samples" 0 "$room/480.flat" < <(head -c 44 "$good")
+fails "a read that fails between two frames" 3 "$room/480.flat" < <(head -c $((44 + 2880)) "$good")
+fails "a read that fails in a frame" 3 "$room/480.flat" < <(head -c $((44 + 2900)) "$good")
+wav --samples 0 >"$room/empty.wav"
+fails "a read that fails behind samples that are none" 0 "$room/none.flat" "$room/empty.wav" <"$room/empty.wav"
 
 # Sound that is levelled, of 1, 2 and 8 channels, with a short last frame: as the ruled Rust levels it, whose digests are
 # stored.
 tests/some-recordings "$room/some"
 while read -r digest name; do
-    run "$room/some/$name.strip" <"$room/some/$name.wav" >"$room/got" 2>"$room/err"
-    same "recording: $name: nothing is told" "" "$(cat "$room/err")"
+    kept "$room/some/$name.strip" <"$room/some/$name.wav"
+    same "recording: $name: nothing is told, and 0 is said at the end" " 0" "$(cat "$room/err") $(cat "$room/end")"
     same "recording: $name: the digest of what the ruled Rust writes" "$digest" "$(sha256sum <"$room/got" | head -c 64)"
 done <tests/some-recordings.sha256
 
@@ -208,13 +303,168 @@ done <tests/some-recordings.sha256
 wav --samples 4800 --loud 0 >"$room/silent.wav"
 levels "silence in gives silence out" "$room/silent.wav" "$room/480.strip" <"$room/silent.wav"
 
+# A file that is named: it gets what standard output would get, and standard output nothing.
+out=$room/out.wav
+puts() { # NAME DUE TOLD STRIP [OUT]: the file is standard input; DUE is what the output has then
+    kept "$4" "${5:-$out}"
+    same "recording: $1: what is told, and said at the end" "$3 $(end_of "$3")" "$(cat "$room/err") $(cat "$room/end")"
+    same_file "recording: $1: the output" "$2" "${5:-$out}"
+    same "recording: $1: standard output gets nothing" 0 "$(wc -c <"$room/got")"
+}
+puts "a named output" "$good" "" "$room/480.flat" <"$good"
+head -c 50000 /dev/urandom >"$out"
+puts "a named output that is there and is longer" "$good" "" "$room/480.flat" <"$good"
+(cd "$room" && "$OLDPWD/tests/run-program" recording 480.flat by-name.wav <good.wav 2>err)
+same_file "recording: a named output in the folder that it is run in" "$good" "$room/by-name.wav"
+ln -s "$out" "$room/link.wav"
+puts "a link to a file" "$good" "" "$room/480.flat" "$room/link.wav" <"$good"
+
+# At the end of a run that went well the head is put right: where the size was unknown, from a pipe, and where samples are
+# missing. The bytes of the samples are 9600 and 8600, and those that follow the first eight 9636 and 8636.
+righted() { # NAME SIZES TOLD STRIP SAMPLES: the file is standard input, the samples that are due have the head's 44 bytes before them
+    kept "$4" "$out" < <(cat)
+    same "recording: $1: what is told, and said at the end" "$3 $(end_of "$3")" "$(cat "$room/err") $(cat "$room/end")"
+    same "recording: $1: the sizes in the head" "$2" "$(sizes "$out")"
+    same_file "recording: $1: the rest of the head" <(head -c 40 "$5" | tail -c +9) <(head -c 40 "$out" | tail -c +9)
+    same_file "recording: $1: the samples" <(tail -c +45 "$5") <(tail -c +45 "$out")
+}
+righted "ffmpeg's size, and a named output" "9600 9636" "" "$room/480.flat" "$good" < <(wav --samples 4800 --size 4294967295)
+righted "sox's size, and a named output" "9600 9636" "" "$room/480.flat" "$good" < <(wav --samples 4800 --size 2147479552)
+wav --rate 8000 --channels 3 --samples 793 >"$room/three.wav"
+righted "sox's size of three channels, and a named output" "4758 4794" "" "$room/80.flat" "$room/three.wav" \
+    < <(wav --rate 8000 --channels 3 --samples 793 --size 2147479548)
+head -c $((44 + 8600)) "$good" >"$room/8600.wav"
+righted "a recording that is cut, and a named output" "8600 8636" "$(missing 1000)" "$room/480.flat" "$room/8600.wav" <"$room/cut.wav"
+righted "a recording that is cut inside a sample, and a named output" "8600 8636" "$(missing 1000)" "$room/480.flat" "$room/8600.wav" < <(wav --samples 4800 --short 999)
+righted "a recording without one of its samples, and a named output" "0 36" "$(missing 9600)" "$room/none.flat" "$room/empty.wav" < <(head -c 44 "$good")
+righted "no sample of an unknown size, and a named output" "0 36" "" "$room/none.flat" "$room/empty.wav" < <(wav --samples 0 --size 4294967295)
+righted "a size that is true, and a named output" "9600 9636" "recording: the recording ends before the strip, which goes on with record 11" <(flat 11 480) "$good" <"$good"
+# Where the run did not go well the head stays as it was.
+flat 9 480 >"$room/nine.flat"
+head -c $((44 + 8640)) "$good" >"$room/8640.wav"
+righted "a strip that ends, and a named output" "4294967295 4294967295" "recording: the strip ends before the recording, which goes on with frame 10" \
+    "$room/nine.flat" "$room/8640.wav" < <(wav --samples 4800 --size 4294967295)
+righted "a record that is refused, and a named output" "4294967295 4294967295" "recording: the strip is refused with 5 at record 10" \
+    <(head -c 240 "$room/480.flat") "$room/8640.wav" < <(wav --samples 4800 --size 4294967295)
+# Standard output is not sought, though it be a file: it gets the size that came in.
+kept "$room/480.flat" < <(wav --samples 4800 --size 4294967295)
+same "recording: ffmpeg's size, and standard output: it stays, and 0 is said at the end" "4294967295 4294967295 0" "$(sizes "$room/got") $(cat "$room/end")"
+kept "$room/480.flat" <"$room/cut.wav"
+same "recording: a recording that is cut, and standard output: the size stays" "9600 9636 " "$(sizes "$room/got") $(cat "$room/end")"
+# A pipe with a name can not be sought: it gets every byte once.
+mkfifo "$room/out.fifo"
+cat "$room/out.fifo" >"$room/piped" &
+kept "$room/480.flat" "$room/out.fifo" < <(wav --samples 4800 --size 4294967295)
+wait $!
+same "recording: a pipe as the output: nothing is told, and 0 is said at the end" " 0" "$(cat "$room/err") $(cat "$room/end")"
+same_file "recording: a pipe as the output: every byte, once" <(wav --samples 4800 --size 4294967295 | head -c 40; printf '\xff\xff\xff\xff'; tail -c +45 "$good") \
+    <(head -c 4 "$room/piped"; printf '\xa4\x25\0\0'; tail -c +9 "$room/piped")
+
+# An output that can not be made, and one that stays as it was since the run is refused before.
+refuses "an output in a folder that is not there" "the output: No such file or directory" "$room/480.flat" "$room/nowhere/out.wav" <"$good"
+refuses "a folder as the output" "the output: Is a directory" "$room/480.flat" "$room" <"$good"
+refuses "an empty word for the output" "the output: No such file or directory" "$room/480.flat" "" <"$good"
+stays() { # NAME LINE STRIP: the file is standard input
+    echo "not a byte of this" >"$out"
+    refuses "$1, and a named output" "$2" "$3" "$out"
+    same "recording: $1: the named output stays as it was" "not a byte of this" "$(cat "$out")"
+    rm "$out"
+    kept "$3" "$out" <"$good"
+}
+stays "a text" "not a WAV file" "$room/480.flat" <README.md
+stays "samples of 24 bits" "the samples are not 16-bit PCM" "$room/480.flat" < <(wav --bits 24 --group 3)
+stays "44100 Hz" "10 ms at 44100 Hz are no whole frame: 8000, 12000, 16000, 24000, 32000 or 48000 Hz can be levelled: sox in.wav -r 48000 out.wav makes such a file" \
+    "$room/480.flat" < <(wav --rate 44100)
+stays "another rate than the strip's" "the strip has 480 samples a frame, and the recording 160" "$room/480.flat" < <(wav --rate 16000)
+stays "a strip of another version" "the strip is refused with 7 at its head" "$good" <"$good"
+stays "no such strip" "the strip: No such file or directory" "$room/nothing" <"$good"
+
+# A disk that is full: it is told, and nothing is said at the end. Where root may mount one, a small disk, on which the head has
+# room, and not the samples.
+full() { # NAME OUT: at OUT there is no room
+    kept "$room/480.flat" "$2" <"$good"
+    same "recording: $1: what is told, and said at the end" "recording: the output: No space left on device " "$(cat "$room/err") $(cat "$room/end")"
+}
+full "an output that is full" /dev/full
+mkdir "$room/disk"
+if mount -t tmpfs -o size=8k none "$room/disk" 2>/dev/null; then
+    full "a small disk" "$room/disk/out.wav"
+    same_file "recording: a small disk: what had room" <(head -c "$(wc -c <"$room/disk/out.wav")" "$good") "$room/disk/out.wav"
+    same "recording: a small disk: it is full" yes "$([ "$(wc -c <"$room/disk/out.wav")" -ge 4096 ] && echo yes || echo no)"
+    umount "$room/disk"
+fi
+run "$room/480.flat" <"$good" >/dev/full 2>"$room/err" 3>"$room/end"
+same "recording: standard output that is full" "recording: standard output: No space left on device " "$(cat "$room/err") $(cat "$room/end")"
+run "$room/480.flat" <"$good" >&- 2>"$room/err" 3>"$room/end"
+same "recording: no standard output" "recording: standard output: Bad file descriptor " "$(cat "$room/err") $(cat "$room/end")"
+run "$room/480.flat" "$out" <"$good" >&- 2>"$room/err" 3>"$room/end"
+same "recording: no standard output, and a named one" " 0" "$(cat "$room/err") $(cat "$room/end")"
+same_file "recording: no standard output, and a named one: the output" "$good" "$out"
+run "$room/480.flat" "$out" <"$good" 2>&- 3>"$room/end"
+same "recording: no standard error, and a named output" 0 "$(cat "$room/end")"
+same_file "recording: no standard error, and a named output: the output" "$good" "$out"
+run "$room/480.flat" "$out" <"$good" >&- 2>&- 3>"$room/end"
+same "recording: neither standard output nor standard error: nothing is said at the end, and the output is empty" " 0" "$(cat "$room/end") $(wc -c <"$out")"
+run "$room/480.flat" "$out" <"$good" 3>&- 2>"$room/err"
+same "recording: nobody listens at the end: nothing is told" "" "$(cat "$room/err")"
+same_file "recording: nobody listens at the end: the output" "$good" "$out"
+
+# A close that fails, as it may where a disk is far away: the kernel is told to refuse it, where it can be. The descriptors are
+# known where no emulator takes some, and only the program itself may be filtered, so it is started here.
+closes() { # NAME TOLD DESCRIPTOR WORDS..
+    local name=$1 told=$2 descriptor=$3
+    shift 3
+    python3 - "$descriptor" "$good" "$@" <<'CLOSES' >"$room/got" 2>"$room/err" 3>"$room/end"
+import ctypes, os, platform, shutil, struct, sys
+kit = os.environ.get("RATTLE_HOME") or os.path.dirname(os.path.dirname(os.path.realpath(shutil.which("rt"))))
+place = f"{kit}/on/x86_64/toolchain/lib"
+descriptor, source, words = int(sys.argv[1]), sys.argv[2], sys.argv[3:]
+# A filter of system calls: close of this descriptor fails with EIO, and all else goes through.
+code = [(0x20, 0, 0, 0), (0x15, 0, 3, 3), (0x20, 0, 0, 16), (0x15, 0, 1, descriptor), (0x06, 0, 0, 0x00050005), (0x06, 0, 0, 0x7FFF0000)]
+filter = ctypes.create_string_buffer(b"".join(struct.pack("=HBBI", *line) for line in code))
+program = ctypes.create_string_buffer(struct.pack("@HP", len(code), ctypes.addressof(filter)))
+libc = ctypes.CDLL(None, use_errno=True)
+os.dup2(os.open(source, os.O_RDONLY), 0)
+if platform.machine() != "x86_64" or libc.prctl(38, 1, 0, 0, 0) or libc.prctl(22, 2, program, 0, 0):
+    sys.exit("not tried")
+start = [f"{place}/ld-linux-x86-64.so.2", "--library-path", place, "target/bin/recording"]
+os.execv(start[0], start + words)
+CLOSES
+    if [ "$(cat "$room/err")" = "not tried" ]; then
+        echo "ok recording: $name: not tried, since this system does not filter its system calls"
+    else
+        same "recording: $name: what is told, and said at the end" "$told " "$(cat "$room/err") $(cat "$room/end")"
+        same_file "recording: $name: all was written" "$good" "$(if [ $# -eq 1 ]; then echo "$room/got"; else echo "$2"; fi)"
+    fi
+}
+closes "a close of standard output that fails" "recording: standard output: Input/output error" 1 "$room/480.flat"
+closes "a close of a named output that fails" "recording: the output: Input/output error" 5 "$room/480.flat" "$out"
+
+# A program that is killed says nothing at the end, however much it has written.
+mkfifo "$room/kill"
+rm "$out"
+written() { wc -c <"${word:-$room/got}" 2>/dev/null || echo 0; }
+for word in "" "$out"; do
+    tests/run-program recording "$room/480.flat" ${word:+"$word"} <"$room/kill" >"$room/got" 2>"$room/err" 3>"$room/end" &
+    program=$!
+    exec 4>"$room/kill"
+    head -c $((44 + 4800)) "$good" >&4
+    for ((i = 0; i < 600; i++)); do
+        [ "$(written)" -ge $((44 + 4800)) ] && break
+        sleep 0.05
+    done
+    { kill -9 "$program" && wait "$program"; } 2>/dev/null
+    exec 4>&-
+    same "recording: killed${word:+, with a named output}: nothing is said at the end" "4844 " "$(written) $(cat "$room/end")"
+done
+
 # Two minutes of sound, 12,000 frames of 40 samples: it tells each minute, and the memory that it has used is the same
 # at the end as after a second.
 flat 12000 40 >"$room/long.strip"
 wav --rate 4000 --samples 480000 --loud 3000 >"$room/long.wav"
 used() { sed -n 's/^VmHWM:[^0-9]*\([0-9]*\) kB/\1/p' "/proc/$program/status"; }
 mkfifo "$room/in"
-tests/run-program recording "$room/long.strip" <"$room/in" >"$room/got" 2>"$room/err" &
+tests/run-program recording "$room/long.strip" <"$room/in" >"$room/got" 2>"$room/err" 3>"$room/end" &
 program=$!
 exec 3>"$room/in"
 # The memory that is used once so many bytes are written.
@@ -235,7 +485,7 @@ tail -c 80 "$room/long.wav" >&3
 exec 3>&-
 wait "$program"
 same "recording: two minutes end with status 0" 0 $?
-same "recording: two minutes are told one by one" "recording: 1 min recording: 2 min" "$(paste -sd' ' "$room/err")"
+same "recording: two minutes are told one by one, and 0 is said at the end" "recording: 1 min recording: 2 min 0" "$(paste -sd' ' "$room/err") $(cat "$room/end")"
 same_file "recording: two minutes: every byte" "$room/long.wav" "$room/got"
 if [ -n "$before" ] && [ -n "$after" ] && [ "$after" -le $((before + 500)) ]; then
     echo "ok recording: two minutes take no more memory than a second ($before kB, $after kB)"

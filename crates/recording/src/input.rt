@@ -8,6 +8,17 @@ use crate::told;
 use recording_run::input::Filled;
 use recording_run::input::after_read;
 use recording_run::input::empty;
+use recording_run::levelling::behind_bytes;
+
+// The most bytes that a frame has.
+const MOST_BYTES: usize = 7680;
+
+// Room for the bytes of a frame.
+pub(crate) fn room() -> [u8; MOST_BYTES]
+    ensures { λ r. ⌜ 7680 ≡ length r ⌝ }
+{
+    [0; MOST_BYTES]
+}
 
 // As many bytes of a buffer as asked, and never more than it has.
 pub(crate) fn within(n: usize, buffer: &[u8]) -> usize
@@ -48,4 +59,10 @@ pub(crate) fn fill(from: i32, buffer: &mut [u8]) -> Filled {
 pub(crate) fn fill_some(from: i32, buffer: &mut [u8], most: usize) -> Filled {
     let n = within(most, buffer);
     fill(from, &mut buffer[..n])
+}
+
+// Looks behind samples whose chunk says this size.
+pub(crate) fn look_behind(size: u32) -> Filled {
+    let mut buffer = [0u8; 1];
+    fill_some(libc::STDIN_FILENO, &mut buffer, behind_bytes(size))
 }

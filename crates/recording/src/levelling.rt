@@ -1,45 +1,43 @@
 // The frames of the recording through the chain, one after the other.
 
-ghost use mathlib.Core.Path.{_≡_};
-ghost use lib.ListN.{length};
 use crate::input::fill_some;
-use crate::input::within;
+use crate::input::look_behind;
+use crate::input::room;
+use crate::output::close;
+use crate::output::write;
+use crate::output::write_first;
 use crate::strip::draw_next;
 use crate::strip::rest_of;
 use crate::told;
+use recording_run::answer::Answer;
+use recording_run::answer::of_run;
 use recording_run::levelling::Run;
+use recording_run::levelling::Told;
 use recording_run::levelling::after_write;
 use recording_run::levelling::frame_bytes;
 use recording_run::levelling::hear;
 use recording_run::levelling::heard_run;
+use recording_run::levelling::put_right;
 use recording_run::levelling::take_entry;
 use recording_run::levelling::told_at_end;
 use recording_run::strip::Source;
+use wav_format::head::LONGEST_HEAD;
 
-// The most bytes that a frame has.
-const MOST_BYTES: usize = 7680;
-
-// What stays the same from frame to frame: where the strip is read, the channels, and the samples of a channel.
+// What stays the same from frame to frame: where the strip is read and the levelled file is written, the channels, the
+// samples of a channel, the mask, and the size that the file says of all samples.
 pub(crate) struct Desk {
     pub strip: i32,
+    pub out: i32,
     pub channels: usize,
     pub samples: usize,
+    pub mask: u32,
+    pub size: u32,
 }
 
 // The run, and the strip beside it.
 pub(crate) struct Both {
     pub run: Run,
     pub source: Source,
-}
-
-// Writes so many bytes, and answers whether that went well. Where not, it is told.
-pub(crate) fn write(bytes: &[u8], n: usize) -> bool {
-    let m = within(n, bytes);
-    let written = io::write_all(libc::STDOUT_FILENO, &bytes[..m]);
-    if !written {
-        os::fail(b"recording: standard output");
-    }
-    written
 }
 
 // Draws the record of a frame of which so many bytes were heard, levels the frame and writes it.
@@ -52,7 +50,7 @@ fn with_record(desk: Desk, block: &mut [u8], bytes: &mut [u8], n: usize, both: B
     let told = turn.told;
     told::of_run(told);
     let next = turn.run;
-    let after = after_write(next, write(bytes, turn.n));
+    let after = after_write(next, write(desk.out, bytes, turn.n));
     let rest = drawn.source;
     Both {
         run: after,
@@ -79,7 +77,8 @@ fn next_frame(desk: Desk, block: &mut [u8], bytes: &mut [u8], both: Both) -> Bot
 // run uses up.
 fn take_frames(desk: Desk, block: &mut [u8], bytes: &mut [u8], both: Both) -> Both {
     let mut now = both;
-    let mut more = true;
+    let first = both.run;
+    let mut more = first.more;
     let mut turns = u64::MAX;
     while turns > 0 && more {
         now = next_frame(desk, block, bytes, now);
@@ -90,13 +89,6 @@ fn take_frames(desk: Desk, block: &mut [u8], bytes: &mut [u8], both: Both) -> Bo
     now
 }
 
-// Room for the bytes of a frame.
-fn room() -> [u8; MOST_BYTES]
-    ensures { λ r. ⌜ 7680 ≡ length r ⌝ }
-{
-    [0; MOST_BYTES]
-}
-
 // Takes all frames.
 fn take_all(desk: Desk, block: &mut [u8], both: Both) -> Both {
     let mut bytes = room();
@@ -104,13 +96,51 @@ fn take_all(desk: Desk, block: &mut [u8], both: Both) -> Both {
     take_frames(desk, block, &mut bytes[..n], both)
 }
 
-// Levels all frames. At the end of a run that went well it looks whether the strip goes on.
-pub(crate) fn level(desk: Desk, block: &mut [u8], both: Both, known: bool) {
+// Puts the head of a file that is named right, and answers whether that went well. Standard output keeps the head that it
+// has.
+fn right_head(desk: Desk, run: Run) -> bool {
+    if desk.out == libc::STDOUT_FILENO {
+        true
+    } else {
+        let mut head = [0u8; LONGEST_HEAD];
+        let n = put_right(
+            run,
+            desk.channels,
+            desk.samples,
+            desk.mask,
+            desk.size,
+            &mut head,
+        );
+        if 0 < n {
+            write_first(desk.out, &head, n)
+        } else {
+            true
+        }
+    }
+}
+
+// The end of a run that went well: it looks whether there is more behind the samples and in the strip, puts the head right
+// and closes the output.
+fn end_well(desk: Desk, block: &mut [u8], both: Both) -> Answer {
+    let run = both.run;
+    let source = both.source;
+    let behind = look_behind(desk.size);
+    let rest = rest_of(desk.strip, block, source);
+    let told = told_at_end(run, desk.size, desk.channels, behind.n, rest.n);
+    told::of_run(told);
+    let righted = right_head(desk, run);
+    let closed = close(desk.out, righted);
+    of_run(run, told, behind.failed | rest.failed, righted & closed)
+}
+
+// Levels all frames, and answers what is said at the end.
+pub(crate) fn level(desk: Desk, block: &mut [u8], both: Both) -> Answer {
     let last = take_all(desk, block, both);
     let run = last.run;
-    let source = last.source;
     if run.well {
-        let rest = rest_of(desk.strip, block, source);
-        told::of_run(told_at_end(run, known, rest));
+        end_well(desk, block, last)
+    } else {
+        let closed = close(desk.out, false);
+        of_run(run, Told::Nothing, false, closed)
     }
 }

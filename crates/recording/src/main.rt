@@ -1,11 +1,19 @@
 // Levels a recording: reads a WAV file of 16-bit samples from standard input, and for each 10 ms a record of the strip
-// that the one argument names, and writes the levelled WAV file to standard output. Whatever ends it before is told on
-// standard error, and so is each minute.
+// that the first word names, and writes the levelled WAV file to standard output, or to the file that a second word names.
+// Whatever ends it before is told on standard error, and so is each minute.
+//
+// Without a word it meters the WAV file: to standard output it writes twelve bytes, and then twelve for each 10 ms, as the
+// crate `loudness` has them.
+//
+// A program has no exit status. The last that it does where all went well is to write 0 to descriptor 3, and where the strip
+// was refused, the number of the refusal; in every other case it writes nothing there.
 //
 // The memory is fixed: a recording of any length goes through.
 
 mod input;
 mod levelling;
+mod metering;
+mod output;
 mod strip;
 mod told;
 mod wave;
@@ -13,7 +21,10 @@ mod wave;
 use levelling::Both;
 use levelling::Desk;
 use levelling::level;
-use levelling::write;
+use metering::meter_samples;
+use output::write;
+use recording_run::answer::of_refusal;
+use recording_run::levelling::after_write;
 use recording_run::strip::Source;
 use recording_run::wave::Search;
 use recording_run::wave::Stage;
@@ -21,36 +32,44 @@ use strip::draw_next;
 use strip_format::Head;
 use strip_reader::Got;
 use units::replies::DONE;
-use wav_format::head::HEAD_BYTES;
+use wav_format::head::LONGEST_HEAD;
 use wave::find;
 
-// Levels the samples that were found, whose chunk says this size: the head of the levelled file, then the frames.
+// Levels the samples that were found, whose chunk says this size: the head of the levelled file, then the frames. The output
+// is opened once there is a head to write.
 fn with_samples(
     strip: i32,
+    named: bool,
     block: &mut [u8],
     source: Source,
     head: Head,
     search: Search,
     size: u32,
 ) {
-    let mut out = [0u8; HEAD_BYTES];
+    let mut bytes = [0u8; LONGEST_HEAD];
     let begun = recording_run::levelling::begin(
         head,
         search.channels,
         search.samples,
+        search.mask,
         size,
-        &mut out,
+        &mut bytes,
     );
     if begun.reply == DONE {
-        if write(&out, HEAD_BYTES) {
+        let out = output::open(named);
+        if 0 <= out {
             let desk = Desk {
                 strip,
+                out,
                 channels: search.channels,
                 samples: search.samples,
+                mask: search.mask,
+                size,
             };
-            let run = begun.run;
+            let first = begun.run;
+            let run = after_write(first, write(out, &bytes, begun.head));
             let both = Both { run, source };
-            level(desk, block, both, begun.known);
+            told::at_end(level(desk, block, both));
         }
     } else {
         told::samples_differ(head.samples, search.samples);
@@ -58,43 +77,69 @@ fn with_samples(
 }
 
 // Levels the recording with a strip whose head is accepted. A search that is over has found samples, or is told.
-fn with_head(strip: i32, block: &mut [u8], source: Source, head: Head) {
+fn with_head(strip: i32, named: bool, block: &mut [u8], source: Source, head: Head) {
     let search = find();
     let stage = search.stage;
     match stage {
         Stage::Start | Stage::Chunk | Stage::Format(_) | Stage::Skip(_) => {}
-        Stage::Samples(size) => with_samples(strip, block, source, head, search, size),
+        Stage::Samples(size) => with_samples(strip, named, block, source, head, search, size),
         Stage::Over(fault) => told::of_search(fault),
     }
 }
 
 // Levels the recording with a strip. The first that comes out of it is its head, or a refusal, or nothing where a read
 // failed, which was told.
-fn with_strip(strip: i32) {
+fn with_strip(strip: i32, named: bool) {
     let mut block = io::buffer();
     let drawn = draw_next(strip, &mut block, recording_run::strip::begin());
     let got = drawn.got;
     let source = drawn.source;
     match got {
-        Got::Head(head) => with_head(strip, &mut block, source, head),
-        Got::Refused(reply) => told::head_refused(reply),
+        Got::Head(head) => with_head(strip, named, &mut block, source, head),
+        Got::Refused(reply) => {
+            told::head_refused(reply);
+            told::at_end(of_refusal(reply));
+        }
         Got::More | Got::Record(_) | Got::End => {}
     }
 }
 
-fn main() {
+// Opens the strip that the first word names. Where that fails the answer is below 0.
+fn open_strip() -> i32 {
     let mut path = io::buffer();
     let n = os::arg(1, &mut path);
-    if os::arg_count() == 2 {
-        let strip = os::open_read(&path[..n]);
+    if os::errno() == 0 {
+        os::open_read(&path[..n])
+    } else {
+        -1
+    }
+}
+
+// Meters the recording. A search that is over has found samples, or is told.
+fn without_strip() {
+    let search = find();
+    let stage = search.stage;
+    match stage {
+        Stage::Start | Stage::Chunk | Stage::Format(_) | Stage::Skip(_) => {}
+        Stage::Samples(size) => told::at_end(meter_samples(search, size)),
+        Stage::Over(fault) => told::of_search(fault),
+    }
+}
+
+fn main() {
+    let words = os::arg_count();
+    if words <= 1 {
+        without_strip();
+    } else if words <= 3 {
+        let strip = open_strip();
         if 0 <= strip {
-            with_strip(strip);
+            with_strip(strip, words == 3);
         } else {
             os::fail(b"recording: the strip");
         }
     } else {
         told::tell(
-            b"recording: it takes one word, the path of a strip: recording STRIP < in.wav > out.wav\n",
+            b"recording: it takes the path of a strip, and may take that of the levelled file: recording STRIP [OUT] < in.wav\n",
         );
     }
 }

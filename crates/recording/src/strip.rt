@@ -1,6 +1,7 @@
 // The strip, read block by block.
 
 use crate::input::read_once;
+use recording_run::input::Filled;
 use recording_run::strip::Drawn;
 use recording_run::strip::Source;
 use recording_run::strip::draw;
@@ -22,13 +23,16 @@ pub(crate) fn draw_next(strip: i32, block: &mut [u8], source: Source) -> Drawn {
     now
 }
 
-// How many bytes the strip still has, as far as they are read: 0 at its end.
-pub(crate) fn rest_of(strip: i32, block: &mut [u8], source: Source) -> usize {
+// The bytes that the strip still has, as far as they are read: none at its end.
+pub(crate) fn rest_of(strip: i32, block: &mut [u8], source: Source) -> Filled {
     let left = unused(source);
     if 0 < left {
-        left
+        Filled {
+            n: left,
+            more: true,
+            failed: false,
+        }
     } else {
-        let came = read_once(strip, block, 0);
-        came.n
+        read_once(strip, block, 0)
     }
 }

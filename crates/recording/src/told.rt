@@ -1,7 +1,11 @@
-// What is told on standard error: one line for each.
+// What is told on standard error, one line for each, and what is said at the end on a descriptor of its own.
 
+use recording_run::answer::Answer;
 use recording_run::levelling::Told;
 use recording_run::wave::Fault;
+
+// Where it is said at the end that all went well, or with which reply the strip was refused.
+const END_FILENO: i32 = 3;
 
 // Tells a text.
 pub(crate) fn tell(text: &[u8]) {
@@ -21,6 +25,15 @@ pub(crate) fn unread(from: i32) {
         os::fail(b"recording: standard input");
     } else {
         os::fail(b"recording: the strip");
+    }
+}
+
+// A write that failed, of standard output or of a file that is named.
+pub(crate) fn unwritten(to: i32) {
+    if to == libc::STDOUT_FILENO {
+        os::fail(b"recording: standard output");
+    } else {
+        os::fail(b"recording: the output");
     }
 }
 
@@ -48,7 +61,7 @@ pub(crate) fn of_search(fault: Fault) {
         Fault::Rate(rate) => tell_number(
             b"recording: 10 ms at ",
             rate as u64,
-            b" Hz are no whole frame: 8000, 12000, 16000, 24000, 32000 or 48000 Hz can be levelled\n",
+            b" Hz are no whole frame: 8000, 12000, 16000, 24000, 32000 or 48000 Hz can be levelled: sox in.wav -r 48000 out.wav makes such a file\n",
         ),
     }
 }
@@ -98,10 +111,20 @@ pub(crate) fn of_run(told: Told) {
             n as u64,
             b" bytes of its samples are missing\n",
         ),
+        Told::SaysNone => tell(
+            b"recording: the WAV file says that it has no samples, and goes on behind them: was its head never put right? (sox --ignore-length reads such a file)\n",
+        ),
         Told::StripGoesOn(number) => tell_number(
             b"recording: the recording ends before the strip, which goes on with record ",
             number,
             b"\n",
         ),
+    }
+}
+
+// What is said at the end, if anything is. Where nobody listens, nothing comes of it.
+pub(crate) fn at_end(answer: Answer) {
+    if answer.tell {
+        io::print_decimal(END_FILENO, answer.reply as u64);
     }
 }

@@ -1,5 +1,5 @@
 -- A run over the frames of a recording. Definitions only.
-use mathlib.Core.Bool.{Bool, true, false, _&&_, not, cond}
+use mathlib.Core.Bool.{Bool, true, false, _&&_, _||_, not, cond}
 use mathlib.Core.List.{List, [], _∷_, _++_}
 use Prim.Native.Nat.{ℕ, _+_, _*_, _-_, _/_, _%_, _^_}
 use lib.Dec.{eqb, leb, ltb}
@@ -11,10 +11,10 @@ use Rattle.chain.specs.declared.Chain.{Chain}
 use Rattle.strip_format.specs.declared.Head.{Head}
 use Rattle.strip_reader.specs.declared.Got.{Got}
 use Rattle.strip_reader.specs.declared.Got.the-variants as Came
-use Rattle.wav_format.specs.Head.{putHead}
+use Rattle.wav_format.specs.Head.{headLength, putHead}
 use Rattle.recording_frame.specs.Levelling.{levelled}
 use Rattle.recording_run.specs.declared.levelling.Told.{Told}
-use Rattle.recording_run.specs.declared.levelling.Told.the-variants.{Nothing, Minute, StripEnds, Refused, Missing, StripGoesOn}
+use Rattle.recording_run.specs.declared.levelling.Told.the-variants.{Nothing, Minute, StripEnds, Refused, Missing, SaysNone, StripGoesOn}
 use Rattle.recording_run.specs.declared.levelling.Run.{Run}
 use Rattle.recording_run.specs.declared.levelling.Extent.{Extent}
 use Rattle.recording_run.specs.declared.levelling.Begun.{Begun}
@@ -25,14 +25,14 @@ use Rattle.recording_run.specs.declared.levelling.Turn.{Turn}
 unfoldable pub wholeGroups : ℕ → ℕ → ℕ
 wholeGroups n channels = cond (leb 1 channels && leb channels 8) (n - n % (2 * channels)) 0
 
--- a size from here on is what a program writes that does not know it
-abbrev pub isUnknown : ℕ → Bool
-isUnknown size = leb 0x7fff_0000 size
+-- what a program writes that does not know the size: ffmpeg the largest number, and sox as many of 2147479552 bytes as are whole groups
+unfoldable pub isUnknown : ℕ → ℕ → Bool
+isUnknown size channels = eqb size 0xffff_ffff || eqb size (wholeGroups 0x7fff_f000 channels)
 
 -- the levelled file says the size of the whole groups; one that is unknown is kept, and then all that comes is read
 unfoldable pub extentOf : ℕ → ℕ → Extent
 extentOf size channels =
-    let known = not (isUnknown size) in
+    let known = not (isUnknown size channels) in
     record { known = known; size = cond known (wholeGroups size channels) size; left = cond known (wholeGroups size channels) 18446744073709551615 }
 
 -- two bytes for each sample of a frame of at most 8 channels and 480 samples
@@ -44,15 +44,15 @@ pub record Beginning : Type 0 where
   pub begun : Begun
   pub out : List ℕ
 
-unfoldable pub begun : Head → ℕ → ℕ → ℕ → List ℕ → Beginning
-begun head channels samples size out =
+unfoldable pub begun : Head → ℕ → ℕ → ℕ → ℕ → List ℕ → Beginning
+begun head channels samples mask size out =
     let extent = extentOf size channels in
-    let written = putHead channels samples (extent .size) out in
+    let written = putHead channels samples mask (extent .size) out in
     let chain = made (head .settings) (head .threshold) (head .samples) .chain in
-    let run : Run = record { chain = chain; number = 1; left = extent .left; more = true; well = true } in
+    let run : Run = record { chain = chain; number = 1; left = extent .left; more = true; well = true; refused = 0 } in
     cond (eqb samples (head .samples))
-    (record { begun = record { reply = written .reply; known = extent .known; run = run }; out = written .out })
-    (record { begun = record { reply = badShape; known = extent .known; run = run }; out = out })
+    (record { begun = record { reply = written .reply; head = headLength mask; run = run }; out = written .out })
+    (record { begun = record { reply = badShape; head = headLength mask; run = run }; out = out })
 
 -- ---- a frame is heard
 -- as many bytes, all 0
@@ -67,7 +67,7 @@ silenced from bytes = take from bytes ++ quiet (drop from bytes)
 -- there is no frame where no byte of a whole group came, or where a read failed, and then not all went well
 abbrev pub heard : Run → ℕ → Bool → Run
 heard run n failed =
-    record { chain = run .chain; number = run .number; left = run .left; more = ltb 0 n && not failed; well = not failed }
+    record { chain = run .chain; number = run .number; left = run .left; more = ltb 0 n && not failed; well = not failed; refused = run .refused }
 
 -- ---- it is levelled
 -- the run after a frame, what is told and how many bytes are written, and the bytes
@@ -79,10 +79,14 @@ pub record Framed : Type 0 where
 unfoldable pub minute : ℕ → Told
 minute number = cond (eqb (number % 6000) 0) (Minute (number / 6000)) Nothing
 
--- the run ends, and nothing is written
-abbrev pub stopped : Run → Told → Turn
-stopped run told =
-    record { run = record { chain = run .chain; number = run .number; left = run .left; more = false; well = false }; told = told; n = 0 }
+-- the run ends, and nothing is written; the strip was refused with this reply, or with 0 was not
+abbrev pub stopped : Run → Told → ℕ → Turn
+stopped run told refused =
+    record {
+      run = record { chain = run .chain; number = run .number; left = run .left; more = false; well = false; refused = refused };
+      told = told;
+      n = 0;
+    }
 
 unfoldable pub framed : Run → ℕ → Figures → List ℕ → ℕ → ℕ → Framed
 framed run n figures bytes channels samples =
@@ -91,28 +95,63 @@ framed run n figures bytes channels samples =
       turn =
           cond (eqb (after .next .reply) done)
           (record {
-            run = record { chain = after .next .chain; number = (run .number + 1) % 2 ^ 64; left = run .left - n; more = true; well = true };
+            run = record { chain = after .next .chain; number = (run .number + 1) % 2 ^ 64; left = run .left - n; more = true; well = true; refused = 0 };
             told = minute (run .number);
             n = n;
           })
-          (stopped run (Refused (after .next .reply) (run .number)));
+          (stopped run (Refused (after .next .reply) (run .number)) (after .next .reply));
       bytes = after .bytes;
     }
 
 -- with what came out of the strip for it: without a record the run ends
 unfoldable pub entered : Got → Run → ℕ → List ℕ → ℕ → ℕ → Framed
-entered Came.More run n bytes channels samples = record { turn = stopped run Nothing; bytes = bytes }
-entered (Came.Head head) run n bytes channels samples = record { turn = stopped run Nothing; bytes = bytes }
+entered Came.More run n bytes channels samples = record { turn = stopped run Nothing 0; bytes = bytes }
+entered (Came.Head head) run n bytes channels samples = record { turn = stopped run Nothing 0; bytes = bytes }
 entered (Came.Record figures) run n bytes channels samples = framed run n figures bytes channels samples
-entered Came.End run n bytes channels samples = record { turn = stopped run (StripEnds (run .number)); bytes = bytes }
-entered (Came.Refused reply) run n bytes channels samples = record { turn = stopped run (Refused reply (run .number)); bytes = bytes }
+entered Came.End run n bytes channels samples = record { turn = stopped run (StripEnds (run .number)) 0; bytes = bytes }
+entered (Came.Refused reply) run n bytes channels samples = record { turn = stopped run (Refused reply (run .number)) reply; bytes = bytes }
 
 -- ---- it is written, or could not be
 abbrev pub afterWrite : Run → Bool → Run
 afterWrite run written =
-    record { chain = run .chain; number = run .number; left = run .left; more = run .more && written; well = run .well && written }
+    record { chain = run .chain; number = run .number; left = run .left; more = run .more && written; well = run .well && written; refused = run .refused }
 
--- ---- the end: what is told of a run that went well, where the strip has so many bytes more
-unfoldable pub atEnd : Run → Bool → ℕ → Told
-atEnd run known rest =
-    cond (run .well) (cond (known && ltb 0 (run .left)) (Missing (run .left)) (cond (ltb 0 rest) (StripGoesOn (run .number)) Nothing)) Nothing
+-- ---- the end
+-- behind samples of which the file says that there are none one byte is looked for
+abbrev pub behindBytes : ℕ → ℕ
+behindBytes size = cond (eqb size 0) 1 0
+
+-- what is told of samples of which so many bytes did not come, where so many come behind them, and otherwise
+unfoldable pub ofSamples : ℕ → ℕ → ℕ → ℕ → Told → Told
+ofSamples size channels left behind other =
+    cond (extentOf size channels .known && ltb 0 left) (Missing left) (cond (eqb size 0 && ltb 0 behind) SaysNone other)
+
+-- what is told of a strip that has so many bytes more
+unfoldable pub ofRest : ℕ → ℕ → Told
+ofRest rest number = cond (ltb 0 rest) (StripGoesOn number) Nothing
+
+-- what is told of a run that went well: first of the samples, then of the strip
+unfoldable pub atEnd : Run → ℕ → ℕ → ℕ → ℕ → Told
+atEnd run size channels behind rest = cond (run .well) (ofSamples size channels (run .left) behind (ofRest rest (run .number))) Nothing
+
+-- how many bytes of samples were written
+abbrev pub writtenBytes : Run → ℕ → ℕ → ℕ
+writtenBytes run size channels = extentOf size channels .left - run .left
+
+-- the most bytes of samples of which four bytes say how many follow the first eight of the file
+abbrev pub mostSamples : ℕ → ℕ
+mostSamples mask = 4294967295 - (headLength mask - 8)
+
+-- a head that is put right: how many of its bytes are written, and the buffer
+pub record Righted : Type 0 where
+  pub n : ℕ
+  pub out : List ℕ
+
+-- after a run that went well, where another size is true than the head says, and the head has room for it
+unfoldable pub righted : Run → ℕ → ℕ → ℕ → ℕ → List ℕ → Righted
+righted run channels samples mask size out =
+    let written = writtenBytes run size channels in
+    let head = putHead channels samples mask written out in
+    cond (leb written (mostSamples mask) && (run .well && not (eqb written (extentOf size channels .size))))
+    (record { n = cond (eqb (head .reply) done) (headLength mask) 0; out = head .out })
+    (record { n = 0; out = out })

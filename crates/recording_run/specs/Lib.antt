@@ -3,4 +3,6 @@ pub mod Input
 pub mod Wave
 pub mod Strip
 pub mod Levelling
+pub mod Metering
+pub mod Answer
 pub mod Laws

@@ -14,7 +14,7 @@ use Rattle.recording_run.specs.declared.wave.Search.{Search}
 
 -- from the start of a file
 abbrev pub first : Search
-first = record { stage = Start; channels = 0; samples = 0 }
+first = record { stage = Start; channels = 0; samples = 0; mask = 0 }
 
 -- a chunk of odd size has one byte of padding
 abbrev pub padded : ℕ → ℕ
@@ -64,8 +64,8 @@ unfoldable pub afterFormat : ℕ → List ℕ → Search
 afterFormat size bytes =
     let format = formatOf bytes in
     cond (eqb (format .reply) done)
-    (record { stage = Skip (padded size - length bytes); channels = format .channels; samples = format .samples })
-    (record { stage = Over (faultOf (format .reply) bytes); channels = 0; samples = 0 })
+    (record { stage = Skip (padded size - length bytes); channels = format .channels; samples = format .samples; mask = format .mask })
+    (record { stage = Over (faultOf (format .reply) bytes); channels = 0; samples = 0; mask = 0 })
 
 -- where none came, none was left or the input has ended, and in both cases the head of the next chunk is due
 unfoldable pub afterSkip : ℕ → ℕ → Stage
@@ -73,7 +73,7 @@ afterSkip left came = cond (ltb 0 came) (Skip (left - came)) Chunk
 
 -- the next stage with what is known of the format
 abbrev pub stays : Search → Stage → Search
-stays search stage = record { stage = stage; channels = search .channels; samples = search .samples }
+stays search stage = record { stage = stage; channels = search .channels; samples = search .samples; mask = search .mask }
 
 unfoldable pub tookAt : Stage → Search → List ℕ → Search
 tookAt Start search bytes = stays search (afterStart bytes)

@@ -2,7 +2,7 @@
 
 ghost use mathlib.Core.Path.{_≡_};
 ghost use Prim.Native.Nat.{_≤_};
-ghost use Rattle.recording_run.specs.Levelling.{wholeGroups, isUnknown, extentOf, frameBytes, begun, silenced, heard, minute, stopped, framed, entered, afterWrite, atEnd};
+ghost use Rattle.recording_run.specs.Levelling.{wholeGroups, isUnknown, extentOf, frameBytes, begun, silenced, heard, minute, stopped, framed, entered, afterWrite, behindBytes, ofSamples, ofRest, atEnd, righted};
 use crate::input::less;
 use chain::Chain;
 use recording_frame::level_bytes;
@@ -12,34 +12,46 @@ use strip_reader::Got;
 use units::figures::Figures;
 use units::replies::DONE;
 use units::replies::SHAPE;
+use wav_format::head::head_bytes;
 use wav_format::head::write_head;
 
-// A size from here on is what a program writes that does not know it: the samples end where the input ends.
-const UNKNOWN: u32 = 0x7fff_0000;
+// What a program writes that does not know the size of its samples, since it writes to a pipe: ffmpeg the first, and sox as
+// many bytes of the second as are whole groups of samples. They end where the input ends then.
+const STREAM: u32 = 0xffff_ffff;
+
+const PIPE: usize = 0x7fff_f000;
+
+// The largest number that four bytes say, and the bytes of a file that stand before the size of all that follows them.
+const MOST: usize = 4294967295;
+
+const SIZED_BYTES: usize = 8;
 
 // So many frames are a minute.
 const MINUTE: u64 = 6000;
 
 // What is told of a run: nothing; that so many minutes are levelled; that the strip ends before the frame of this number;
-// that a record is refused with this reply, and its number; that so many bytes of the samples are missing; or that the
-// strip goes on with the record of this number after the recording.
+// that a record is refused with this reply, and its number; that so many bytes of the samples are missing; that the file
+// says that it has no samples, and goes on behind them; or that the strip goes on with the record of this number after the
+// recording.
 pub enum Told {
     Nothing,
     Minute(u64),
     StripEnds(u64),
     Refused(u32, u64),
     Missing(usize),
+    SaysNone,
     StripGoesOn(u64),
 }
 
 // How far a run is: the chain, the number of the next frame, how many bytes of samples are still to come, whether it goes
-// on, and whether all went well so far.
+// on, whether all went well so far, and the reply with which the strip was refused, which is 0 where it was not.
 pub struct Run {
     pub chain: Chain,
     pub number: u64,
     pub left: usize,
     pub more: bool,
     pub well: bool,
+    pub refused: u32,
 }
 
 // Whether it is known how many bytes of samples there are; how many the levelled file says; and how many are read, at most.
@@ -49,10 +61,10 @@ pub struct Extent {
     pub left: usize,
 }
 
-// A reply's number, whether it is known how many bytes of samples there are, and the run before its first frame.
+// A reply's number, how many bytes the head of the levelled file has, and the run before its first frame.
 pub struct Begun {
     pub reply: u32,
-    pub known: bool,
+    pub head: usize,
     pub run: Run,
 }
 
@@ -79,18 +91,18 @@ fn whole_groups(n: usize, channels: usize) -> usize
     }
 }
 
-// Whether a size of samples is one that a program writes that does not know it.
-fn is_unknown(size: u32) -> bool
-    ensures { λ r. ⌜ r ≡ isUnknown size ⌝ }
+// Whether a size of samples is one that a program writes that does not know it. Every other size is known, however large.
+fn is_unknown(size: u32, channels: usize) -> bool
+    ensures { λ r. ⌜ r ≡ isUnknown size channels ⌝ }
 {
-    UNKNOWN <= size
+    (size == STREAM) | (size as usize == whole_groups(PIPE, channels))
 }
 
 // How many bytes there are of samples whose chunk says this size. Where it is unknown, the levelled file says the same.
 pub fn extent_of(size: u32, channels: usize) -> Extent
     ensures { λ r. ⌜ r ≡ extentOf size channels ⌝ }
 {
-    let known = !is_unknown(size);
+    let known = !is_unknown(size, channels);
     let whole = whole_groups(size as usize, channels);
     Extent {
         known,
@@ -115,34 +127,43 @@ pub fn frame_bytes(channels: usize, samples: usize) -> usize
     }
 }
 
-// Begins a run with the head of a strip and samples of this format, whose chunk says this size: the head of the levelled
-// file in the first bytes of a lent buffer, and a new chain. Refused with 1 where the strip is for another number of
-// samples, and with what the head is refused with; nothing is written then.
-pub fn begin(head: Head, channels: usize, samples: usize, size: u32, out: &mut [u8]) -> Begun
-    ensures { λ r. ⌜ r ≡ begun head channels samples size (now (out .entry)) .begun ⌝ }
-    ensures { λ _. ⌜ now (out .exit) ≡ begun head channels samples size (now (out .entry)) .out ⌝ }
+// Begins a run with the head of a strip and samples of this format and mask, whose chunk says this size: the head of the
+// levelled file in the first bytes of a lent buffer, and a new chain. Refused with 1 where the strip is for another number
+// of samples, and with what the head is refused with; nothing is written then.
+pub fn begin(
+    head: Head,
+    channels: usize,
+    samples: usize,
+    mask: u32,
+    size: u32,
+    out: &mut [u8],
+) -> Begun
+    ensures { λ r. ⌜ r ≡ begun head channels samples mask size (now (out .entry)) .begun ⌝ }
+    ensures { λ _. ⌜ now (out .exit) ≡ begun head channels samples mask size (now (out .entry)) .out ⌝ }
 {
     let settings = head.settings;
     let made = Chain::new(settings, head.threshold, head.samples);
     let chain = made.chain;
     let extent = extent_of(size, channels);
+    let long = head_bytes(mask);
     let run = Run {
         chain,
         number: 1,
         left: extent.left,
         more: true,
         well: true,
+        refused: 0,
     };
     if samples == head.samples {
         Begun {
-            reply: write_head(channels, samples, extent.size, out),
-            known: extent.known,
+            reply: write_head(channels, samples, mask, extent.size, out),
+            head: long,
             run,
         }
     } else {
         Begun {
             reply: SHAPE,
-            known: extent.known,
+            head: long,
             run,
         }
     }
@@ -181,6 +202,7 @@ pub fn heard_run(run: Run, n: usize, failed: bool) -> Run
         left: run.left,
         more: (0 < n) & !failed,
         well: !failed,
+        refused: run.refused,
     }
 }
 
@@ -195,9 +217,9 @@ fn told_minute(number: u64) -> Told
     }
 }
 
-// A run that ends before its next frame, which is not written.
-fn stop(run: Run, told: Told) -> Turn
-    ensures { λ r. ⌜ r ≡ stopped run told ⌝ }
+// A run that ends before its next frame, which is not written: the strip was refused with this reply, or with 0 was not.
+fn stop(run: Run, told: Told, refused: u32) -> Turn
+    ensures { λ r. ⌜ r ≡ stopped run told refused ⌝ }
 {
     let chain = run.chain;
     Turn {
@@ -207,6 +229,7 @@ fn stop(run: Run, told: Told) -> Turn
             left: run.left,
             more: false,
             well: false,
+            refused,
         },
         told,
         n: 0,
@@ -236,12 +259,13 @@ fn take_figures(
                 left: less(run.left, n),
                 more: true,
                 well: true,
+                refused: 0,
             },
             told: told_minute(run.number),
             n,
         }
     } else {
-        stop(run, Told::Refused(next.reply, run.number))
+        stop(run, Told::Refused(next.reply, run.number), next.reply)
     }
 }
 
@@ -260,11 +284,11 @@ pub fn take_entry(
     ensures { λ _. ⌜ now (bytes .exit) ≡ entered got run n (now (bytes .entry)) channels samples .bytes ⌝ }
 {
     match got {
-        Got::More => stop(run, Told::Nothing),
-        Got::Head(_) => stop(run, Told::Nothing),
+        Got::More => stop(run, Told::Nothing, 0),
+        Got::Head(_) => stop(run, Told::Nothing, 0),
         Got::Record(figures) => take_figures(run, n, figures, bytes, channels, samples),
-        Got::End => stop(run, Told::StripEnds(run.number)),
-        Got::Refused(reply) => stop(run, Told::Refused(reply, run.number)),
+        Got::End => stop(run, Told::StripEnds(run.number), 0),
+        Got::Refused(reply) => stop(run, Told::Refused(reply, run.number), reply),
     }
 }
 
@@ -279,23 +303,95 @@ pub fn after_write(run: Run, written: bool) -> Run
         left: run.left,
         more: run.more & written,
         well: run.well & written,
+        refused: run.refused,
     }
 }
 
-// What is told at the end of a run, after which the strip has so many bytes or more: that bytes of the samples are missing,
-// where it is known how many there are, or that the strip goes on. Of a run that did not go well all is told.
-pub fn told_at_end(run: Run, known: bool, rest: usize) -> Told
-    ensures { λ r. ⌜ r ≡ atEnd run known rest ⌝ }
+// How many bytes are looked for behind samples whose chunk says this size: one, where it says that there are none.
+pub fn behind_bytes(size: u32) -> usize
+    ensures { λ r. ⌜ r ≡ behindBytes size ⌝ }
 {
-    if run.well {
-        if known & (0 < run.left) {
-            Told::Missing(run.left)
-        } else if 0 < rest {
-            Told::StripGoesOn(run.number)
-        } else {
-            Told::Nothing
-        }
+    floats::pick_usize(size == 0, 1, 0)
+}
+
+// What is told of samples whose chunk says this size, where so many bytes did not come, and so many come behind them, of
+// those that were looked for: that bytes are missing, where it is known how many there are; that the file says that it has
+// none and goes on behind them; otherwise what else there is to tell.
+pub(crate) fn told_of_samples(
+    size: u32,
+    channels: usize,
+    left: usize,
+    behind: usize,
+    other: Told,
+) -> Told
+    ensures { λ r. ⌜ r ≡ ofSamples size channels left behind other ⌝ }
+{
+    let extent = extent_of(size, channels);
+    if extent.known & (0 < left) {
+        Told::Missing(left)
+    } else if (size == 0) & (0 < behind) {
+        Told::SaysNone
+    } else {
+        other
+    }
+}
+
+// What is told of a strip that has so many bytes more, of which the next record has this number.
+fn told_of_rest(rest: usize, number: u64) -> Told
+    ensures { λ r. ⌜ r ≡ ofRest rest number ⌝ }
+{
+    if 0 < rest {
+        Told::StripGoesOn(number)
     } else {
         Told::Nothing
+    }
+}
+
+// What is told at the end of a run over samples whose chunk says this size, where so many bytes come behind them, of those
+// that were looked for, and the strip has so many more: first of the samples, then that the strip goes on. Of a run that
+// did not go well all is told.
+pub fn told_at_end(run: Run, size: u32, channels: usize, behind: usize, rest: usize) -> Told
+    ensures { λ r. ⌜ r ≡ atEnd run size channels behind rest ⌝ }
+{
+    if run.well {
+        told_of_samples(
+            size,
+            channels,
+            run.left,
+            behind,
+            told_of_rest(rest, run.number),
+        )
+    } else {
+        Told::Nothing
+    }
+}
+
+// The head with the size that is true at the end of a run over samples whose chunk says this size, in the first bytes of a
+// lent buffer, and how many bytes of it are to be written: none, where the run did not go well, where the head that was
+// written is true, and where four bytes do not say how many bytes follow the first eight. The buffer stays as it was then.
+pub fn put_right(
+    run: Run,
+    channels: usize,
+    samples: usize,
+    mask: u32,
+    size: u32,
+    out: &mut [u8],
+) -> usize
+    ensures { λ r. ⌜ r ≡ righted run channels samples mask size (now (out .entry)) .n ⌝ }
+    ensures { λ _. ⌜ now (out .exit) ≡ righted run channels samples mask size (now (out .entry)) .out ⌝ }
+{
+    let long = head_bytes(mask);
+    let most = less(MOST, less(long, SIZED_BYTES));
+    let extent = extent_of(size, channels);
+    let written = less(extent.left, run.left);
+    if written <= most {
+        if run.well & !(written == extent.size as usize) {
+            let reply = write_head(channels, samples, mask, written as u32, out);
+            floats::pick_usize(reply == DONE, long, 0)
+        } else {
+            0
+        }
+    } else {
+        0
     }
 }

@@ -47,11 +47,13 @@ pub enum Stage {
     Over(Fault),
 }
 
-// Where the search is, and the channels and the samples of a channel in 10 ms: both 0 as long as no format has come.
+// Where the search is, and the channels, the samples of a channel in 10 ms and the mask: all 0 as long as no format has
+// come.
 pub struct Search {
     pub stage: Stage,
     pub channels: usize,
     pub samples: usize,
+    pub mask: u32,
 }
 
 // The search from the start of a file.
@@ -62,6 +64,7 @@ pub fn begin() -> Search
         stage: Stage::Start,
         channels: 0,
         samples: 0,
+        mask: 0,
     }
 }
 
@@ -170,12 +173,14 @@ fn after_format(size: u32, bytes: &[u8]) -> Search
             stage: Stage::Skip(less(padded_size(size), bytes.len())),
             channels: format.channels,
             samples: format.samples,
+            mask: format.mask,
         }
     } else {
         Search {
             stage: Stage::Over(fault_of(format.reply, bytes)),
             channels: 0,
             samples: 0,
+            mask: 0,
         }
     }
 }
@@ -199,11 +204,13 @@ pub fn take_bytes(search: Search, bytes: &[u8], failed: bool) -> Search
     let stage = search.stage;
     let channels = search.channels;
     let samples = search.samples;
+    let mask = search.mask;
     if failed {
         Search {
             stage: Stage::Over(Fault::Unread),
             channels,
             samples,
+            mask,
         }
     } else {
         match stage {
@@ -211,17 +218,20 @@ pub fn take_bytes(search: Search, bytes: &[u8], failed: bool) -> Search
                 stage: after_start(bytes),
                 channels,
                 samples,
+                mask,
             },
             Stage::Chunk => Search {
                 stage: after_head(channels, bytes),
                 channels,
                 samples,
+                mask,
             },
             Stage::Format(size) => after_format(size, bytes),
             Stage::Skip(left) => Search {
                 stage: after_skip(left, bytes.len()),
                 channels,
                 samples,
+                mask,
             },
             Stage::Samples(_) => search,
             Stage::Over(_) => search,

@@ -2,4 +2,5 @@
 pub mod Bytes
 pub mod Head
 pub mod Samples
+pub mod Steps
 pub mod Laws

@@ -4,9 +4,9 @@ ghost use mathlib.Core.Path.{_≡_};
 ghost use mathlib.Core.List.{_++_};
 ghost use Prim.Native.Nat.{_≤_};
 ghost use lib.ListN.{length, drop};
-ghost use Rattle.wav_format.specs.Head.{isWave, chunkOf, formatRefusal, formatOf, following, headBytes, putHead};
+ghost use Rattle.wav_format.specs.Head.{isWave, chunkOf, formatRefusal, formatOf, headLength, following, headBytes, putHead};
 use crate::numbers::four_at;
-use crate::numbers::put_four;
+use crate::numbers::put_fours;
 use crate::numbers::two_at;
 use units::replies::CUT;
 use units::replies::DONE;
@@ -16,7 +16,7 @@ use units::replies::SHAPE;
 use units::replies::VERSION;
 
 // The bytes that a file begins with, those of a chunk's head, the most of a format chunk that is looked at, and the
-// bytes of a head that is written.
+// bytes of a head that is written: without a mask, and with one.
 pub const START_BYTES: usize = 12;
 
 pub const CHUNK_BYTES: usize = 8;
@@ -24,6 +24,8 @@ pub const CHUNK_BYTES: usize = 8;
 pub const FORMAT_BYTES: usize = 40;
 
 pub const HEAD_BYTES: usize = 44;
+
+pub const LONGEST_HEAD: usize = 68;
 
 // The names, as numbers: RIFF and WAVE, and those of the chunks of the format and of the samples.
 const RIFF: u32 = 0x4646_4952;
@@ -45,11 +47,13 @@ pub struct Chunk {
     pub size: u32,
 }
 
-// A reply's number, the channels, and the samples that a channel has in 10 ms: 0 where it is refused.
+// A reply's number, the channels, the samples that a channel has in 10 ms, and the mask that says which speakers the
+// channels are for, 0 where the format says none: all 0 where it is refused.
 pub struct Format {
     pub reply: u32,
     pub channels: usize,
     pub samples: usize,
+    pub mask: u32,
 }
 
 // Whether these bytes are the start of a WAV file.
@@ -92,76 +96,91 @@ fn format_refusal(bytes: &[u8]) -> u32
     floats::pick_u32(16 <= bytes.len(), after_length, CUT)
 }
 
-// The channels and the samples of 10 ms that a format chunk says, where it is not refused.
+// The channels, the samples of 10 ms and the mask that a format chunk says, where it is not refused. Only an extended
+// format says a mask.
 pub fn read_format(bytes: &[u8]) -> Format
     ensures { λ r. ⌜ r ≡ formatOf (now (bytes .entry)) ⌝ }
 {
     let reply = format_refusal(bytes);
     let ok = reply == DONE;
+    let tag = two_at(bytes, 0);
     let channels = two_at(bytes, 2) as usize;
     let samples = (four_at(bytes, 4) / 100) as usize;
+    let mask = four_at(bytes, 20);
     Format {
         reply,
         channels: floats::pick_usize(ok, channels, 0),
         samples: floats::pick_usize(ok, samples, 0),
+        mask: floats::pick_u32(ok & (tag == EXTENDED), mask, 0),
     }
 }
 
-// How many bytes follow the first eight, as far as 32 bits say it.
-fn following_bytes(size: u32) -> u32
-    ensures { λ r. ⌜ r ≡ following size ⌝ }
+// How many bytes a head with this mask has: without one, which is 0, it has 44, and with one 68.
+pub fn head_bytes(mask: u32) -> usize
+    ensures { λ r. ⌜ r ≡ headLength mask ⌝ }
 {
-    if size <= 4294967259 {
-        size + 36
+    floats::pick_usize(mask == 0, HEAD_BYTES, LONGEST_HEAD)
+}
+
+// How many bytes follow the first eight of a head of this length, as far as 32 bits say it.
+fn following_bytes(length: usize, size: u32) -> u32
+    requires { ⌜ 8 ≤ length ⌝ }
+    requires { ⌜ length ≤ 68 ⌝ }
+    ensures { λ r. ⌜ r ≡ following length size ⌝ }
+{
+    let all = size as usize + (length - 8);
+    if all <= 4294967295 {
+        all as u32
     } else {
         4294967295
     }
 }
 
-// Stores a head in the first bytes of a buffer: eleven numbers of four bytes, two of which are two numbers of two bytes.
-fn put_head(channels: u32, samples: u32, size: u32, out: &mut [u8])
+// Stores a head in the first bytes of a buffer, as numbers of four bytes, some of which are two numbers of two bytes: nine
+// of them, six more where a mask is said, the last four of which are the tag of plain samples, and two.
+fn put_head(channels: u32, samples: u32, mask: u32, size: u32, out: &mut [u8])
     requires { ⌜ channels ≤ 8 ⌝ }
     requires { ⌜ samples ≤ 480 ⌝ }
-    requires { ⌜ 44 ≤ length (now out) ⌝ }
-    ensures { λ _. ⌜ now (out .exit) ≡ headBytes channels samples size ++ drop 44 (now (out .entry)) ⌝ }
+    requires { ⌜ headLength mask ≤ length (now out) ⌝ }
+    ensures { λ _. ⌜ now (out .exit) ≡ headBytes channels samples mask size ++ drop (headLength mask) (now (out .entry)) ⌝ }
 {
-    let rest = following_bytes(size);
+    let none = mask == 0;
+    let long = head_bytes(mask);
+    let rest = following_bytes(long, size);
+    let bytes = floats::pick_u32(none, 16, 40);
+    let tag = floats::pick_u32(none, PLAIN, EXTENDED);
     let rate = samples * 100;
     let group = 2 * channels;
     let second = rate * group;
-    let kind = PLAIN + 65536 * channels;
+    let kind = tag + 65536 * channels;
     let width = group + 65536 * 16;
-    let numbers = [
-        RIFF,
-        rest,
-        WAVE,
-        FORMAT,
-        16,
-        kind,
-        rate,
-        second,
-        width,
-        DATA,
-        size,
+    let first = [RIFF, rest, WAVE, FORMAT, bytes, kind, rate, second, width];
+    let more = [
+        0x0010_0016,
+        mask,
+        PLAIN,
+        0x0010_0000,
+        0xaa00_0080,
+        0x719b_3800,
     ];
-    let mut k = 0;
-    while k < 11 {
-        put_four(numbers[k], out, 4 * k);
-        k += 1;
-    }
+    let last = [DATA, size];
+    let n = floats::pick_usize(none, 0, 6);
+    put_fours(&first, out, 0);
+    put_fours(&more[..n], out, 36);
+    put_fours(&last, out, long - 8);
 }
 
-// Writes the head of a file with so many channels, so many samples a channel in 10 ms and so many bytes of samples
-// to the start of a lent buffer. Refused are channels or samples that are no frame's with 1, and a buffer of fewer
-// than 44 bytes with 8; nothing is written then.
-pub fn write_head(channels: usize, samples: usize, size: u32, out: &mut [u8]) -> u32
-    ensures { λ r. ⌜ r ≡ putHead channels samples size (now (out .entry)) .reply ⌝ }
-    ensures { λ _. ⌜ now (out .exit) ≡ putHead channels samples size (now (out .entry)) .out ⌝ }
+// Writes the head of a file with so many channels, so many samples a channel in 10 ms, this mask, where 0 is none, and so
+// many bytes of samples to the start of a lent buffer. Refused are channels or samples that are no frame's with 1, and a
+// buffer that is shorter than the head with 8; nothing is written then.
+pub fn write_head(channels: usize, samples: usize, mask: u32, size: u32, out: &mut [u8]) -> u32
+    ensures { λ r. ⌜ r ≡ putHead channels samples mask size (now (out .entry)) .reply ⌝ }
+    ensures { λ _. ⌜ now (out .exit) ≡ putHead channels samples mask size (now (out .entry)) .out ⌝ }
 {
     let shape = (1 <= channels) & (channels <= 8) & frames::is_samples(samples);
     if shape {
-        if HEAD_BYTES <= out.len() {
-            put_head(channels as u32, samples as u32, size, out);
+        if head_bytes(mask) <= out.len() {
+            put_head(channels as u32, samples as u32, mask, size, out);
             DONE
         } else {
             ROOM

@@ -2,9 +2,10 @@
 
 ghost use mathlib.Core.Path.{_≡_};
 ghost use mathlib.Core.List.{_++_};
-ghost use Prim.Native.Nat.{_+_, _≤_, _<_, _^_};
+ghost use Prim.Native.Nat.{_+_, _*_, _≤_, _<_, _^_};
 ghost use lib.ListN.{length, getD, take, drop};
 ghost use Rattle.wav_format.specs.Bytes.{littleAt, little};
+ghost use Rattle.wav_format.specs.Steps.{inFours};
 
 // The byte at a place, or 0.
 fn byte_at(bytes: &[u8], at: usize) -> u32
@@ -51,7 +52,7 @@ pub(crate) fn put_two(n: u32, out: &mut [u8], at: usize)
 }
 
 // Stores a number in the four bytes at a place.
-pub(crate) fn put_four(n: u32, out: &mut [u8], at: usize)
+fn put_four(n: u32, out: &mut [u8], at: usize)
     requires { ⌜ at + 4 ≤ length (now out) ⌝ }
     ensures { λ _. ⌜ now (out .exit) ≡ take at (now (out .entry)) ++ little 4 n ++ drop (at + 4) (now (out .entry)) ⌝ }
 {
@@ -59,4 +60,16 @@ pub(crate) fn put_four(n: u32, out: &mut [u8], at: usize)
     out[at + 1] = (n / 256 % 256) as u8;
     out[at + 2] = (n / 256 / 256 % 256) as u8;
     out[at + 3] = (n / 256 / 256 / 256 % 256) as u8;
+}
+
+// Stores numbers of four bytes from a place on.
+pub(crate) fn put_fours(numbers: &[u32], out: &mut [u8], at: usize)
+    requires { ⌜ at + 4 * length (now numbers) ≤ length (now out) ⌝ }
+    ensures { λ _. ⌜ now (out .exit) ≡ take at (now (out .entry)) ++ inFours (now (numbers .entry)) ++ drop (at + 4 * length (now (numbers .entry))) (now (out .entry)) ⌝ }
+{
+    let mut k = 0;
+    while k < numbers.len() {
+        put_four(numbers[k], out, at + 4 * k);
+        k += 1;
+    }
 }

@@ -1,13 +1,13 @@
 -- What is written is read back, and what is read is written back. Laws.
 -- Assumes nothing.
 use mathlib.Core.Path.{_≡_, refl, sym, ap, ap₂, _∙_}
-use mathlib.Core.Bool.{true, _&&_}
+use mathlib.Core.Bool.{Bool, true, false, _&&_, cond}
 use mathlib.Core.List.{List, [], _∷_, _++_}
-use Prim.Native.Nat.{ℕ, zero, suc, _+_, _*_, _/_, _%_, _^_, _≤_, _<_}
+use Prim.Native.Nat.{ℕ, zero, suc, _+_, _*_, _-_, _/_, _%_, _^_, _≤_, _<_}
 use native.Mathlib.Nat.{le-trans, add-zero, not-suc-le-zero, le-of-suc-le-suc, mod-lt, mod-eq-of-lt, div-eq-of-lt, mul-add-div-right, mul-add-mod-self-right, div-add-mod', div-lt-iff-lt-mul, mul-le-mul-right, mul-comm, suc-mul, zero-add}
 use native.Mathlib.Omega.{arith}
-use borrow.Author.Tests.{eq-eqb}
-use lib.Dec.{leb, lit≤}
+use borrow.Author.Tests.{eqb-true, eq-eqb}
+use lib.Dec.{eqb, leb, lit≤}
 use lib.ListN.{length, getD, take, drop}
 use lib.Seq.{take-add, take-all, drop-drop}
 use Rattle.lists.specs.Stores.{next}
@@ -18,7 +18,7 @@ use Rattle.units.specs.Output.{put}
 use Rattle.frames.specs.Shape.{isSamples, isShape}
 use Rattle.frames.specs.Facts.{sizes-facts, shape-facts}
 use Rattle.wav_format.specs.Bytes.{littleAt, little}
-use Rattle.wav_format.specs.Head.{formatName, samplesName, isWave, chunkOf, plain, takeable, formatRefusal, formatOf, following, headBytes}
+use Rattle.wav_format.specs.Head.{formatName, samplesName, isWave, chunkOf, plain, takeable, formatRefusal, formatOf, formatLength, headLength, following, extension, headBytes}
 use Rattle.wav_format.specs.Samples.{soundOf, heardFrom, numberOf, allFullScale, bytesFrom, frameWritten}
 use Rattle.wav_format.specs.Laws.Rounds.{sound-back}
 use Rattle.wav_format.specs.Laws.Samples.{heard-length}
@@ -30,42 +30,63 @@ two-back n h = omega arith
 four-back : (n : ℕ) → n < 2 ^ 32 → n % 256 + 256 * (n / 256 % 256 + 256 * (n / 256 / 256 % 256 + 256 * (n / 256 / 256 / 256 % 256 + 256 * 0))) ≡ n
 four-back n h = omega arith
 
-module _ (channels samples size : ℕ) where
+module _ (channels samples mask size : ℕ) where
   -- What is written begins as a WAV file does,
-  pub head-is-wave : isWave (headBytes channels samples size) ≡ true
+  pub head-is-wave : isWave (headBytes channels samples mask size) ≡ true
   unfolding isWave littleAt headBytes little following
   head-is-wave = refl
 
-  -- its first chunk is a format of 16 bytes,
-  pub format-chunk : chunkOf (drop 12 (headBytes channels samples size)) ≡ record { name = formatName; size = 16 }
+  -- its first chunk is a format,
+  pub format-chunk : chunkOf (drop 12 (headBytes channels samples mask size)) ≡ record { name = formatName; size = formatLength mask }
   unfolding chunkOf littleAt headBytes little following
-  format-chunk = refl
+  format-chunk = go (eqb mask 0) refl
+    where
+      go : (none : Bool) → eqb mask 0 ≡ none → chunkOf (drop 12 (headBytes channels samples mask size)) ≡ record { name = formatName; size = formatLength mask }
+      go true e = rw e
+      go false e = rw e
 
   -- and its second has the samples.
-  pub samples-chunk : size < 2 ^ 32 → chunkOf (drop 36 (headBytes channels samples size)) ≡ record { name = samplesName; size = size }
-  unfolding chunkOf littleAt headBytes little following
-  samples-chunk h = rw (four-back size h)
+  pub samples-chunk : size < 2 ^ 32 → chunkOf (drop (headLength mask - 8) (headBytes channels samples mask size)) ≡ record { name = samplesName; size = size }
+  unfolding chunkOf littleAt headBytes extension little following
+  samples-chunk h = go (eqb mask 0) refl
+    where
+      go : (none : Bool) → eqb mask 0 ≡ none
+          → chunkOf (drop (headLength mask - 8) (headBytes channels samples mask size)) ≡ record { name = samplesName; size = size }
+      go true e = rw (e, four-back size h)
+      go false e = rw (e, four-back size h)
 
 -- The format of a frame's sizes is not refused.
-format-taken : (bytes : List ℕ) (channels samples : ℕ) → length bytes ≡ 16 → plain bytes ≡ true → littleAt bytes 14 2 ≡ 16
+format-taken : (bytes : List ℕ) (channels samples mask : ℕ) → leb 16 (length bytes) ≡ true → plain bytes ≡ true → littleAt bytes 14 2 ≡ 16
     → littleAt bytes 2 2 ≡ channels → littleAt bytes 12 2 ≡ 2 * channels → littleAt bytes 4 4 ≡ samples * 100
+    → cond (eqb (littleAt bytes 0 2) 65534) (littleAt bytes 20 4) 0 ≡ mask
     → leb 1 channels && leb channels 8 ≡ true → isSamples samples ≡ true
-    → formatOf bytes ≡ record { reply = done; channels = channels; samples = samples }
+    → formatOf bytes ≡ record { reply = done; channels = channels; samples = samples; mask = mask }
 unfolding formatOf formatRefusal takeable
-format-taken bytes channels samples l p b c g r few sizes =
+format-taken bytes channels samples mask l p b c g r m few sizes =
     let whole : samples * 100 % 100 ≡ 0 = omega arith in
     let hundredth : samples * 100 / 100 ≡ samples = omega arith in
-    rw (l, p, b, c, g, r, eq-eqb (2 * channels) (2 * channels) refl, whole, hundredth, few, sizes)
+    rw (l, p, b, c, g, r, eq-eqb (2 * channels) (2 * channels) refl, whole, hundredth, few, sizes, m)
 
 -- What is written as a format is read back.
-pub format-back : (channels samples size : ℕ) → leb 1 channels && leb channels 8 && isSamples samples ≡ true
-    → formatOf (take 16 (drop 20 (headBytes channels samples size))) ≡ record { reply = done; channels = channels; samples = samples }
-unfolding plain littleAt headBytes little following
-format-back channels samples size h =
-    let s = sizes-facts channels samples h in
-    let p = each-of (_ ∷ _ ∷ []) h in
-    format-taken (take 16 (drop 20 (headBytes channels samples size))) channels samples refl refl refl (two-back channels (omega (arith, s .eight)))
-    (two-back (2 * channels) (omega (arith, s .eight))) (four-back (samples * 100) (omega (arith, s .each .most))) (p 0) (p 1)
+pub format-back : (channels samples mask size : ℕ) → leb 1 channels && leb channels 8 && isSamples samples ≡ true → mask < 2 ^ 32
+    → formatOf (take (formatLength mask) (drop 20 (headBytes channels samples mask size)))
+    ≡ record { reply = done; channels = channels; samples = samples; mask = mask }
+unfolding plain littleAt headBytes extension little following
+format-back channels samples mask size h few = go (eqb mask 0) refl
+  where
+    go : (none : Bool) → eqb mask 0 ≡ none
+        → formatOf (take (formatLength mask) (drop 20 (headBytes channels samples mask size)))
+        ≡ record { reply = done; channels = channels; samples = samples; mask = mask }
+    go true e =
+        let s = sizes-facts channels samples h in
+        let p = each-of (_ ∷ _ ∷ []) h in
+        rw e (format-taken _ channels samples mask refl refl refl (two-back channels (omega (arith, s .eight)))
+        (two-back (2 * channels) (omega (arith, s .eight))) (four-back (samples * 100) (omega (arith, s .each .most))) (sym (eqb-true mask 0 e)) (p 0) (p 1))
+    go false e =
+        let s = sizes-facts channels samples h in
+        let p = each-of (_ ∷ _ ∷ []) h in
+        rw e (format-taken _ channels samples mask refl refl refl (two-back channels (omega (arith, s .eight)))
+        (two-back (2 * channels) (omega (arith, s .eight))) (four-back (samples * 100) (omega (arith, s .each .most))) (four-back mask few) (p 0) (p 1))
 
 -- ---- a frame
 -- The samples that were read, one by one.

@@ -59,15 +59,20 @@ pub record Begun (o p o′ : List ℕ) (n : ℕ) : Type 0 where
 pub none-put : (o : List ℕ) → Begun o [] o 0
 none-put o = record { long = refl; are = refl }
 
--- A number's bytes that are put behind those that were put join them.
-pub puts : {o p o′ o″ : List ℕ} {n : ℕ} (w x m : ℕ) → n + w ≡ m → Begun o p o′ n
-    → o″ ≡ take n o′ ++ little w x ++ drop (n + w) o′ → Begun o (p ++ little w x) o″ m
-puts {o} {p} {o′} {o″} {n} w x m s b e =
+-- Bytes that are put behind those that were put join them.
+pub puts-all : {o p o′ o″ : List ℕ} {n : ℕ} (q : List ℕ) (w m : ℕ) → length q ≡ w → n + w ≡ m → Begun o p o′ n
+    → o″ ≡ take n o′ ++ q ++ drop (n + w) o′ → Begun o (p ++ q) o″ m
+puts-all {o} {p} {o′} {o″} {n} q w m z s b e =
     let l = b .long in
-    let joined : take n (p ++ drop n o) ++ little w x ++ drop (n + w) (p ++ drop n o) ≡ p ++ little w x ++ drop m o =
+    let joined : take n (p ++ drop n o) ++ q ++ drop (n + w) (p ++ drop n o) ≡ p ++ q ++ drop m o =
     rw (take-at p (drop n o) n l, ← drop-drop w n (p ++ drop n o), drop-at p (drop n o) n l, drop-drop w n o, s)
     in
-    record { long = rw (length-append, l, little-length w x) s; are = e ∙ rw (b .are) joined }
+    record { long = rw (length-append, l, z) s; are = e ∙ rw (b .are) joined }
+
+-- So do those of a number.
+pub puts : {o p o′ o″ : List ℕ} {n : ℕ} (w x m : ℕ) → n + w ≡ m → Begun o p o′ n
+    → o″ ≡ take n o′ ++ little w x ++ drop (n + w) o′ → Begun o (p ++ little w x) o″ m
+puts w x m s b e = puts-all (little w x) w m (little-length w x) s b e
 
 -- Bytes that are put where nothing is refused: they fit, or not.
 pub put-fits : (n : ℕ) (bytes out : List ℕ) → length bytes ≡ n → n ≤ length out → put done bytes out ≡ record { reply = done; out = bytes ++ drop n out }

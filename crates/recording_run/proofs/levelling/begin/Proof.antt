@@ -11,6 +11,9 @@ new-requires c κs = search needs
 extent-of-requires : tie.Need-extent-of-requires
 extent-of-requires c κs = search needs
 
+head-bytes-requires : tie.Need-head-bytes-requires
+head-bytes-requires c κs = search needs
+
 write-head-requires : tie.Need-write-head-requires
 write-head-requires c κs = search needs
 
@@ -19,13 +22,40 @@ same-length c = search needs
 
 returns : tie.Need-returns
 unfolding begun
-returns c = (rw (eq-eqb _ _ (c .before .before .before .before .if1 .taken), ← c .before .before .before .before .before .before .extent-of .ensures, ← c .before .before .before .before .before .before .before .before .new .ensures, c .before .before .write-head .ensures .0), rw (eq-eqb _ _ (c .before .before .before .before .if1 .taken), ← c .before .before .before .before .before .before .extent-of .ensures, c .before .before .write-head .ensures .1))
+returns c =
+    let at-head = c .before .before in
+    let at-test = at-head .before .before in
+    let at-length = at-test .before .before in
+    let at-extent = at-length .before in
+    let at-chain = at-extent .before .before in (
+      rw (
+        eq-eqb _ _ (at-test .if1 .taken),
+        ← at-extent .extent-of .ensures,
+        ← at-chain .new .ensures,
+        at-length .head-bytes .ensures,
+        at-head .write-head .ensures .0,
+      ),
+      rw (eq-eqb _ _ (at-test .if1 .taken), ← at-extent .extent-of .ensures, at-head .write-head .ensures .1),
+    )
 
 returns-2 : tie.Need-returns-2
 unfolding begun
-returns-2 c = (rw (ne-eqb _ _ (c .if1 .left), ← c .before .before .extent-of .ensures, ← c .before .before .before .before .new .ensures), rw (ne-eqb _ _ (c .if1 .left)))
+returns-2 c =
+    let at-length = c .before .before in
+    let at-extent = at-length .before in
+    let at-chain = at-extent .before .before in (
+      rw (ne-eqb _ _ (c .if1 .left), ← at-extent .extent-of .ensures, ← at-chain .new .ensures, at-length .head-bytes .ensures),
+      rw (ne-eqb _ _ (c .if1 .left)),
+    )
 
 pub begin-spec : {M : Type 1} → statement M
 begin-spec =
     tie.close
-    (tie.spec new-requires extent-of-requires write-head-requires same-length returns returns-2)
+    (tie.spec
+    new-requires
+    extent-of-requires
+    head-bytes-requires
+    write-head-requires
+    same-length
+    returns
+    returns-2)

@@ -1,32 +1,42 @@
--- `wav_format::head::put_head` meets its contract. The invariant: the bytes of the first k numbers stand at the start of `out`, which is
--- otherwise as it was. Assumes nothing.
-use mathlib.Core.Path.{_≡_, refl, _∙_}
-use mathlib.Core.List.{List, _++_}
-use Prim.Native.Nat.{ℕ, _*_, _-_, _≤_}
-use native.Mathlib.Nat.{mul-le-mul}
+-- `wav_format::head::put_head` meets its contract: three parts are put one behind the other. Assumes nothing.
+use mathlib.Core.Path.{refl, sym}
+use Prim.Native.Nat.{ℕ, _*_, _≤_}
+use native.Mathlib.Nat.{le-trans, mul-le-mul}
 use native.Mathlib.Omega.{arith}
 use borrow.Author.Needs.{needs}
-use lib.ListN.{length, take, drop}
-use lib.Seq.{take-all}
-use Rattle.wav_format.specs.Laws.Bytes.{Begun}
-use Rattle.wav_format.specs.Laws.Head.{inFours, none-yet, put-next, in-fours}
+use lib.Dec.{lit≤}
+use lib.ListN.{length}
+use lib.Seq.{length-take-le}
+use Rattle.wav_format.specs.Laws.Head.{Sizes, sizes, head-put}
 use Rattle.wav_format.proofs.head.put_head.Statement.{statement}
 use Rattle.wav_format.proofs.head.put_head.Tie as tie
 
-abbrev Inv-loop : tie.InvT-loop
-Inv-loop channels samples size out₀ rest rate group second kind width numbers k₀ out k =
-    Begun out₀ (inFours (take k numbers)) out (4 * k) × (k ≤ 11) × (length out ≡ length out₀)
+-- the sizes, and the room for all of them
+sizes-of : (c : tie.After-pick-usize) → Sizes (c .before .before .before .before .head-bytes .result) (c .before .pick-u322 .result) (c .pick-usize .result)
+sizes-of c =
+    sizes (c .before .before .before .before .before .before .args .mask) (c .before .before .before .before .head-bytes .ensures) (c .before .pick-u322 .ensures) (c .pick-usize .ensures)
 
-abbrev μ-loop : tie.MeasureT-loop
-μ-loop channels samples size out₀ rest rate group second kind width numbers k₀ out k = 11 - k
+room : (c : tie.After-pick-usize) → c .before .before .before .before .head-bytes .result ≤ length (c .before .before .before .before .before .before .args .out .now)
+room c = rw (c .before .before .before .before .head-bytes .ensures) (c .before .before .before .before .before .before .pre .1 .1)
 
-following-bytes-requires : tie.Need-following-bytes-requires Inv-loop μ-loop
-following-bytes-requires c κs = tt
+head-bytes-requires : tie.Need-head-bytes-requires
+head-bytes-requires c κs = search needs
 
-mul-rate : tie.Need-mul-rate Inv-loop μ-loop
+following-bytes-requires : tie.Need-following-bytes-requires
+following-bytes-requires c κs =
+    let s = sizes (c .before .before .args .mask) (c .head-bytes .ensures) refl refl in
+    (le-trans (lit≤ tt) (s .least), s .most)
+
+pick-u32-requires : tie.Need-pick-u32-requires
+pick-u32-requires c κs = search needs
+
+pick-u32-requires-2 : tie.Need-pick-u32-requires-2
+pick-u32-requires-2 c κs = search needs
+
+mul-rate : tie.Need-mul-rate
 mul-rate c = search needs
 
-mul-group : tie.Need-mul-group Inv-loop μ-loop
+mul-group : tie.Need-mul-group
 mul-group c = search needs
 
 -- the bytes a second
@@ -36,77 +46,86 @@ seconds channels samples h k =
     let b : 2 * channels ≤ 16 = omega arith in
     mul-le-mul a b
 
-mul-second : tie.Need-mul-second Inv-loop μ-loop
+mul-second : tie.Need-mul-second
 mul-second c =
-    let start = c .before .before in
+    let start = c .before .before .before .before .before in
     omega (arith, seconds (start .args .channels) (start .args .samples) (start .pre .0) (start .pre .1 .0))
 
-mul-kind : tie.Need-mul-kind Inv-loop μ-loop
+mul-kind : tie.Need-mul-kind
 mul-kind c = search needs
 
-add-kind : tie.Need-add-kind Inv-loop μ-loop
-add-kind c = search needs
+add-kind : tie.Need-add-kind
+add-kind c = omega (arith, sizes (c .before .before .before .before .before .args .mask) refl (c .pick-u322 .ensures) refl .small)
 
-mul-width : tie.Need-mul-width Inv-loop μ-loop
+mul-width : tie.Need-mul-width
 mul-width c = search needs
 
-add-width : tie.Need-add-width Inv-loop μ-loop
+add-width : tie.Need-add-width
 add-width c = search needs
 
-loop-holds : tie.Need-loop-holds Inv-loop μ-loop
-loop-holds c = (none-yet (c .before .before .args .out .now), omega arith, refl)
+pick-usize-requires : tie.Need-pick-usize-requires
+pick-usize-requires c κs = search needs
 
-mul-put-four : tie.Need-mul-put-four Inv-loop μ-loop
-mul-put-four c = search needs
+slice-aggregate-put-fours : tie.Need-slice-aggregate-put-fours
+slice-aggregate-put-fours c = search needs
 
-array-read-put-four : tie.Need-array-read-put-four Inv-loop μ-loop
-array-read-put-four c = search needs
+put-fours-requires : tie.Need-put-fours-requires
+put-fours-requires c κs =
+    let at-n = c .before .before in
+    omega (arith, sizes-of at-n .least, room at-n)
 
-mul-put-four-2 : tie.Need-mul-put-four-2 Inv-loop μ-loop
-mul-put-four-2 c = search needs
+array-share-prefix-more : tie.Need-array-share-prefix-more
+array-share-prefix-more c = sizes-of (c .before .before .before .before .before) .few
 
-put-four-requires : tie.Need-put-four-requires Inv-loop μ-loop
-put-four-requires c κs = omega arith
+slice-aggregate-put-fours-2 : tie.Need-slice-aggregate-put-fours-2
+slice-aggregate-put-fours-2 c = sym (length-take-le _ _ (sizes-of (c .before .before .before .before .before .before) .few))
 
-add-k : tie.Need-add-k Inv-loop μ-loop
-add-k c = search needs
+put-fours-requires-2 : tie.Need-put-fours-requires-2
+put-fours-requires-2 c κs =
+    let at-put = c .before .before .before .before in
+    let at-n = at-put .before .before .before in
+    let s = sizes-of at-n in
+    omega (arith, slice-aggregate-put-fours-2 (c .before), s .all, room at-n, at-put .put-fours .kept .1 .0)
 
-loop-less : tie.Need-loop-less Inv-loop μ-loop
-loop-less c = omega arith
+slice-aggregate-put-fours-3 : tie.Need-slice-aggregate-put-fours-3
+slice-aggregate-put-fours-3 c = search needs
 
-loop-again : tie.Need-loop-again Inv-loop μ-loop
-loop-again c =
-    let at-put = c .before .before in
-    let at-loop = at-put .before .before .before in
-    let loop = at-loop .loop in (
-      put-next _ (loop .k) (at-put .before .before .loop-test .taken) (loop .inv .0) (at-put .put-four .ensures),
-      omega arith,
-      at-put .put-four .kept .1 .0 ∙ loop .inv .2,
-    )
+sub-put-fours : tie.Need-sub-put-fours
+sub-put-fours c = omega (arith, sizes-of (c .before .before .before .before .before .before .before .before .before .before .before .before) .least)
 
-same-length : tie.Need-same-length Inv-loop μ-loop
-same-length c = c .before .loop .inv .2
+put-fours-requires-3 : tie.Need-put-fours-requires-3
+put-fours-requires-3 c κs =
+    let at-more = c .before .before .before .before in
+    let at-put = at-more .before .before .before .before .before in
+    let at-n = at-put .before .before .before in
+    omega (arith, sizes-of at-n .least, room at-n, at-put .put-fours .kept .1 .0, at-more .put-fours2 .kept .1 .0)
 
--- all eleven
-whole : (ns o out head : List ℕ) (k : ℕ) → length ns ≡ 11 → inFours ns ≡ head → k ≡ 11 → Begun o (inFours (take k ns)) out (4 * k) → out ≡ head ++ drop 44 o
-whole ns o out head k l e f b = rw (f, take-all 11 ns (omega arith), e) at (b .are)
+same-length : tie.Need-same-length
+same-length c = search needs
 
-returns : tie.Need-returns Inv-loop μ-loop
+returns : tie.Need-returns
 returns c =
-    let loop = c .before .loop in
-    let counted = c .before .before in
-    let start = counted .before .before in
+    let at-last = c .before .before in
+    let at-more = at-last .before .before .before .before .before in
+    let at-put = at-more .before .before .before .before .before in
+    let at-n = at-put .before .before .before in
+    let at-tag = at-n .before in
+    let at-bytes = at-tag .before in
+    let at-rest = at-bytes .before in
+    let at-long = at-rest .before in
+    let start = at-long .before .before in
     let a = start .args in
-    whole _ (a .out .now) (loop .out) _ (loop .k) refl
-    (in-fours (a .channels) (a .samples) (a .size) (counted .following-bytes .result) (start .pre .0) (counted .following-bytes .ensures)) (omega arith) (loop .inv .0)
+    head-put (a .channels) (a .samples) (a .mask) (a .size) (a .out .now) (start .pre .0) (at-long .head-bytes .ensures) (at-rest .following-bytes .ensures)
+    (at-bytes .pick-u32 .ensures) (at-tag .pick-u322 .ensures) (at-n .pick-usize .ensures) (at-put .put-fours .ensures) (at-more .put-fours2 .ensures) (at-last .put-fours3 .ensures)
 
 pub put-head-spec : {M : Type 1} → statement M
 put-head-spec =
     tie.close
     (tie.spec
-    Inv-loop
-    μ-loop
+    head-bytes-requires
     following-bytes-requires
+    pick-u32-requires
+    pick-u32-requires-2
     mul-rate
     mul-group
     mul-second
@@ -114,13 +133,14 @@ put-head-spec =
     add-kind
     mul-width
     add-width
-    loop-holds
-    mul-put-four
-    array-read-put-four
-    mul-put-four-2
-    put-four-requires
-    add-k
-    loop-less
-    loop-again
+    pick-usize-requires
+    slice-aggregate-put-fours
+    put-fours-requires
+    array-share-prefix-more
+    slice-aggregate-put-fours-2
+    put-fours-requires-2
+    slice-aggregate-put-fours-3
+    sub-put-fours
+    put-fours-requires-3
     same-length
     returns)
