@@ -70,7 +70,7 @@ same_file "strip-maker: a thousand records of any bits, to lines and back" "$roo
 same "strip-maker: no decimal that it writes has an exponent" 0 "$(to_lines <"$room/any" | sed 1,2d | grep -c '[^-0-9. ]')"
 
 # What a line may look like: each of these is the paper's second record.
-lines() { printf 'head threshold 2 samples 480\n'; printf -- "$1"; }
+lines() { printf -- "head threshold 2 samples 480\n$1"; }
 head -c 26 tests/strips/paper.strip >"$room/one"
 tail -c +49 tests/strips/paper.strip | head -c 22 >>"$room/one"
 for line in '1 -10 -5 -90 -90\n' '1,-10,-5,-90,-90\n' '1\t-10\t-5\t-90\t-90\n' ' 1 , -10,  -5 ,-90\t -90 \n' \
@@ -130,7 +130,14 @@ record "1 -10 -5 -90 100.1" "the envelope 100.1 is not from -150 to 100"
 record "1 -10 -5 -90 1e999" "the envelope 1e999 is not from -150 to 100"
 record "1 -10 -5 -90" "a record has five figures, this line has 4"
 record "1 -10 -5 -90 -90 -90" "a record has five figures, this line has 6"
-record "0,95 -10 -5 -90 -90" "a record has five figures, this line has 6"
+# A comma that stands for a point.
+record "0,95 -10 -5 -90 -90" "write 0.95, with a point"
+record "0.95 -10 -5,5 -90 -90" "write -5.5, with a point"
+record "0,95 -34,5 -21 -62 -90 # a note" "write 0.95, with a point"
+record "1,-10,-5,-90,-90,-90" "a record has five figures, this line has 6"
+head_line "head threshold 2 samples 480 headroom 0,5" "write 0.5, with a point"
+head_line "head threshold 2 headroom 5,25 samples 480" "write 5.25, with a point"
+for word in nan inf 1_0 0x10; do head_line "head threshold 2 samples 480 headroom $word" "the headroom '$word' is not a number"; done
 for word in nan inf -inf loud 1_0 0x10 -- 1e ٣; do
     record "1 $word -5 -90 -90" "the rms '$word' is not a number"
 done
@@ -148,5 +155,44 @@ for words in "" "to-tape" "to-strip more"; do
     same "strip-maker: called with '$words', it says how to call it" "2 usage: strip-maker to-strip < lines > strip" \
         "$(tools/strip-maker $words </dev/null 2>"$room/err"; echo "$? $(head -n 1 "$room/err")")"
 done
-to_strip <examples/service.txt >/dev/full 2>"$room/err"
-same "strip-maker: a full disk ends it with status 1" 1 $?
+
+# As the lines come: what they say is written at once, and a wrong line takes nothing of it back.
+mkfifo "$room/in"
+to_strip <"$room/in" >"$room/strip" 2>"$room/err" &
+exec 4>"$room/in"
+written() { # BYTES: how many there are, once there are so many, or after ten seconds
+    for ((i = 0; i < 200; i++)); do
+        [ "$(wc -c <"$room/strip")" -lt "$1" ] || break
+        sleep 0.05
+    done
+    wc -c <"$room/strip"
+}
+lines '1 -10 -5 -90 -90\n1 -10' >&4
+same "strip-maker: a head and a record are written as soon as they came" 48 "$(written 48)"
+printf ' -5 -90 -90\n' >&4
+same "strip-maker: a record that comes in two pieces" 70 "$(written 70)"
+printf '1 -10 70 -90 -90\n' >&4
+exec 4>&-
+wait $!
+same "strip-maker: a wrong line after that" "1 70 line 4: the peak 70 is not from -150 to 50" "$? $(written 70) $(cat "$room/err")"
+refused "bytes that are no lines" "line 1: it has more than 65536 bytes" to_strip < <(head -c 200000 /dev/zero)
+
+# What goes wrong around it: one line, and status 1.
+told() { # NAME TOLD COMMAND..
+    "${@:3}" >"$room/out" 2>"$room/err"
+    same "strip-maker: $1" "1 $2" "$? $(cat "$room/err")"
+}
+full() { tools/strip-maker "$1" >/dev/full; }
+shut() { tools/strip-maker "$1" >&-; }
+told "a line that does not end" "line 2: it has more than 65536 bytes" to_strip < <(lines ''; head -c 200000 /dev/zero | tr '\0' 1)
+told "to-strip on a full disk" "standard output: No space left on device" full to-strip <examples/service.txt
+told "to-lines on a full disk" "standard output: No space left on device" full to-lines <examples/service.strip
+told "--help on a full disk" "standard output: No space left on device" full --help
+told "to-strip without standard output" "standard output: Bad file descriptor" shut to-strip <examples/service.txt
+told "to-lines without standard output" "standard output: Bad file descriptor" shut to-lines <examples/service.strip
+for way in to-strip to-lines; do
+    told "$way without standard input" "standard input: Bad file descriptor" tools/strip-maker $way <&-
+    told "$way of a folder" "standard input: Is a directory" tools/strip-maker $way <.
+done
+{ lines ''; yes '1 -10 -5 -90 -90'; } 2>/dev/null | to_strip 2>"$room/err" | head -c 70 >"$room/strip"
+same "strip-maker: a reader that goes away" "1 70 " "${PIPESTATUS[1]} $(wc -c <"$room/strip") $(cat "$room/err")"
