@@ -66,6 +66,8 @@ told "a strip that is missing" "--strip wants a file" recording --strip
 told "the meter's words beside a strip" "--threshold is the meter's, and the strip has the figures already" \
     recording --threshold 5 --strip examples/service.strip "$room/in.wav" "$room/out.wav"
 told "a word of the meter that is no number" "--noise wants a number, and 'loud' is none" recording --noise loud "$room/in.wav" "$room/out.wav"
+run recording --threshold 201 "$room/in.wav" "$room/out.wav"
+same "level: a word of the meter that is out of its range" "2 meter: --threshold 201 is not a whole number from 1 to 200" "$ended $(cat "$room/err")"
 told "a word that is none" "'--loud' is no word of ./level recording" recording --loud "$room/in.wav" "$room/out.wav"
 
 # ---- nothing is lost in silence

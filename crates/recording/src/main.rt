@@ -76,31 +76,32 @@ fn with_samples(
     }
 }
 
-// Levels the recording with a strip whose head is accepted. A search that is over has found samples, or is told.
-fn with_head(strip: i32, named: bool, block: &mut [u8], source: Source, head: Head) {
-    let search = find();
-    let stage = search.stage;
-    match stage {
-        Stage::Start | Stage::Chunk | Stage::Format(_) | Stage::Skip(_) => {}
-        Stage::Samples(size) => with_samples(strip, named, block, source, head, search, size),
-        Stage::Over(fault) => told::of_search(fault),
-    }
-}
-
-// Levels the recording with a strip. The first that comes out of it is its head, or a refusal, or nothing where a read
-// failed, which was told.
-fn with_strip(strip: i32, named: bool) {
+// Levels the samples that were found with a strip. The first that comes out of it is its head, or a refusal, or nothing
+// where a read failed, which was told.
+fn with_strip(strip: i32, named: bool, search: Search, size: u32) {
     let mut block = io::buffer();
     let drawn = draw_next(strip, &mut block, recording_run::strip::begin());
     let got = drawn.got;
     let source = drawn.source;
     match got {
-        Got::Head(head) => with_head(strip, named, &mut block, source, head),
+        Got::Head(head) => with_samples(strip, named, &mut block, source, head, search, size),
         Got::Refused(reply) => {
-            told::head_refused(reply);
+            told::refused(reply, 0);
             told::at_end(of_refusal(reply));
         }
         Got::More | Got::Record(_) | Got::End => {}
+    }
+}
+
+// Levels the recording. A search that is over has found samples, or is told. It comes before the first look at the strip, which
+// a meter may still be making of the same sound.
+fn with_sound(strip: i32, named: bool) {
+    let search = find();
+    let stage = search.stage;
+    match stage {
+        Stage::Start | Stage::Chunk | Stage::Format(_) | Stage::Skip(_) => {}
+        Stage::Samples(size) => with_strip(strip, named, search, size),
+        Stage::Over(fault) => told::of_search(fault),
     }
 }
 
@@ -133,7 +134,7 @@ fn main() {
     } else if words <= 3 {
         let strip = open_strip();
         if 0 <= strip {
-            with_strip(strip, words == 3);
+            with_sound(strip, words == 3);
         } else {
             os::fail(b"recording: the strip");
         }

@@ -76,23 +76,10 @@ pub(crate) fn samples_differ(strip: usize, recording: usize) {
     tell_number(b"and the recording ", recording as u64, b"\n");
 }
 
-// A strip whose head is refused.
-pub(crate) fn head_refused(reply: u32) {
-    tell_number(
-        b"recording: the strip is refused with ",
-        reply as u64,
-        b" at its head\n",
-    );
-}
-
-// A record of the strip that is refused.
-fn refused(reply: u32, number: u64) {
-    tell_number(
-        b"recording: the strip is refused with ",
-        reply as u64,
-        b" at record ",
-    );
-    tell_number(b"", number, b"\n");
+// A strip that is refused at the record of this number, or at its head, whose number is 0.
+pub(crate) fn refused(reply: u32, number: u64) {
+    tell_number(b"", number, b" R ");
+    tell_number(b"", reply as u64, b"\n");
 }
 
 // What is told of a run.
