@@ -1,5 +1,5 @@
 #!/usr/bin/env bash
-# The program `recording`, run from outside, the meter, and the cough of examples/cough.
+# The program `recording`, run from outside: levelling and metering; the meter, and the cough of examples/cough.
 cd "$(dirname "$0")/.." || exit 1
 . tests/check.bash
 if [ ! -f target/bin/recording ]; then
@@ -411,9 +411,9 @@ same_file "recording: nobody listens at the end: the output" "$good" "$out"
 
 # A close that fails, as it may where a disk is far away: the kernel is told to refuse it, where it can be. The descriptors are
 # known where no emulator takes some, and only the program itself may be filtered, so it is started here.
-closes() { # NAME TOLD DESCRIPTOR WORDS..
-    local name=$1 told=$2 descriptor=$3
-    shift 3
+closes() { # NAME TOLD DESCRIPTOR DUE WRITTEN WORDS..: what is due is written in spite of it
+    local name=$1 told=$2 descriptor=$3 due=$4 written=$5
+    shift 5
     python3 - "$descriptor" "$good" "$@" <<'CLOSES' >"$room/got" 2>"$room/err" 3>"$room/end"
 import ctypes, os, platform, shutil, struct, sys
 kit = os.environ.get("RATTLE_HOME") or os.path.dirname(os.path.dirname(os.path.realpath(shutil.which("rt"))))
@@ -434,11 +434,11 @@ CLOSES
         echo "ok recording: $name: not tried, since this system does not filter its system calls"
     else
         same "recording: $name: what is told, and said at the end" "$told " "$(cat "$room/err") $(cat "$room/end")"
-        same_file "recording: $name: all was written" "$good" "$(if [ $# -eq 1 ]; then echo "$room/got"; else echo "$2"; fi)"
+        same_file "recording: $name: all was written" "$due" "$written"
     fi
 }
-closes "a close of standard output that fails" "recording: standard output: Input/output error" 1 "$room/480.flat"
-closes "a close of a named output that fails" "recording: the output: Input/output error" 5 "$room/480.flat" "$out"
+closes "a close of standard output that fails" "recording: standard output: Input/output error" 1 "$good" "$room/got" "$room/480.flat"
+closes "a close of a named output that fails" "recording: the output: Input/output error" 5 "$good" "$out" "$room/480.flat" "$out"
 
 # A program that is killed says nothing at the end, however much it has written.
 mkfifo "$room/kill"
@@ -491,6 +491,114 @@ if [ -n "$before" ] && [ -n "$after" ] && [ "$after" -le $((before + 500)) ]; th
     echo "ok recording: two minutes take no more memory than a second ($before kB, $after kB)"
 else
     echo "not ok recording: two minutes take no more memory than a second ($before kB, $after kB)"
+fi
+
+# Without a word it meters: twelve bytes with the samples of 10 ms, the channels and the size that the file says, and then for
+# each 10 ms twelve, the largest sum of the squares of a channel and the largest magnitude.
+metering() { # FILE [SIZE]: what is due of a file with a head of 44 bytes; the size that it says, where that is another
+    python3 - "$@" <<'METERING'
+import struct, sys
+file = open(sys.argv[1], "rb").read()
+channels, rate = struct.unpack_from("<HI", file, 22)
+size = int(sys.argv[2]) if len(sys.argv) > 2 else struct.unpack_from("<I", file, 40)[0]
+whole = len(file[44:]) // (2 * channels) * channels
+sound = struct.unpack(f"<{whole}h", file[44 : 44 + 2 * whole])
+write = sys.stdout.buffer.write
+write(struct.pack("<III", rate // 100, channels, size))
+part = rate // 100 * channels
+for at in range(0, len(sound), part):
+    now = sound[at : at + part]
+    square = max(sum(x * x for x in now[c::channels]) for c in range(channels))
+    write(struct.pack("<QI", square, max(abs(x) for x in now)))
+METERING
+}
+meters() { # NAME TOLD DUE: the file is standard input
+    kept
+    same "recording: a metering of $1: what is told, and said at the end" "$2 $(end_of "$2")" "$(cat "$room/err") $(cat "$room/end")"
+    same_file "recording: a metering of $1" "$3" "$room/got"
+}
+wav --rate 4000 --channels 2 --samples 1015 --seed 3 >"$room/in.wav"
+meters "the stored WAV file" "" <(metering "$room/in.wav") <crates/recording/stdin
+for channels in 1 2 3 8; do
+    wav --rate 8000 --channels $channels --samples 793 --seed $channels --loud 32767 --last -32768 >"$room/in.wav"
+    meters "$channels channels, and a short last frame" "" <(metering "$room/in.wav") <"$room/in.wav"
+    meters "$channels channels of ffmpeg's size" "" <(metering "$room/in.wav" 4294967295) \
+        < <(head -c 40 "$room/in.wav"; printf '\xff\xff\xff\xff'; tail -c +45 "$room/in.wav")
+done
+meters "a whole number of frames" "" <(metering "$good") <"$good"
+meters "a file in pieces" "" <(metering "$good") < <(pieces "$good" 1 3 9 5003)
+meters "an extended format with a mask" "" <(metering "$good") < <(wav --samples 4800 --extended --mask 4 --odd-list)
+meters "chunks after the samples" "" <(metering "$good") < <(wav --samples 4800 --late)
+meters "a size that is no whole number of samples" "" <(metering "$good" 9601) < <(wav --samples 4800 --size 9601)
+meters "sox's size" "" <(metering "$good" 2147479552) < <(wav --samples 4800 --size 2147479552)
+meters "a file without samples" "" <(metering "$room/empty.wav") <"$room/empty.wav"
+meters "a size of 0, and samples" "$none" <(metering "$room/empty.wav") < <(wav --samples 4800 --size 0)
+meters "a recording that is cut" "$(missing 1000)" <(metering "$room/8600.wav" 9600) <"$room/cut.wav"
+meters "a recording that is cut inside a sample" "$(missing 1000)" <(metering "$room/8600.wav" 9600) < <(wav --samples 4800 --short 999)
+refuses "a metering of a text" "not a WAV file" <README.md
+refuses "a metering of nothing" "not a WAV file" </dev/null
+refuses "a metering of a folder" "standard input: Is a directory" <.
+refuses "a metering of a file that ends after its start" "the WAV file ends before its samples" < <(head -c 12 "$good")
+refuses "a metering of samples before the format" "the WAV file does not say its format before its samples" < <(head -c 12 "$good"; printf 'data\x02\0\0\0\0\0')
+refuses "a metering of a format of 15 bytes" "the format of the WAV file has fewer than 16 bytes" < <(wav --format-bytes 15)
+refuses "a metering of samples of 24 bits" "the samples are not 16-bit PCM" < <(wav --bits 24 --group 3)
+refuses "a metering of a group of samples that is too long" "the samples of the channels do not lie side by side, in two bytes each" < <(wav --group 4)
+refuses "a metering of nine channels" "the sound has 9 channels: 1 to 8 can be levelled" < <(wav --channels 9)
+refuses "a metering at 44100 Hz" "10 ms at 44100 Hz are no whole frame: 8000, 12000, 16000, 24000, 32000 or 48000 Hz can be levelled: sox in.wav -r 48000 out.wav makes such a file" \
+    < <(wav --rate 44100)
+# Each record is written as soon as its sound came.
+metering "$good" >"$room/due"
+tests/run-program recording <"$room/kill" >"$room/got" 2>"$room/err" 3>"$room/end" &
+program=$!
+exec 4>"$room/kill"
+head -c 44 "$good" >&4
+for frame in 0 1 2 3; do
+    for ((i = 0; i < 600; i++)); do
+        [ "$(wc -c <"$room/got")" -ge $((12 + 12 * frame)) ] && break
+        sleep 0.05
+    done
+    same_file "recording: a metering as the sound comes: after $frame frames" <(head -c $((12 + 12 * frame)) "$room/due") "$room/got"
+    tail -c +$((45 + 960 * frame)) "$good" | head -c 960 >&4
+done
+{ kill -9 "$program" && wait "$program"; } 2>/dev/null
+exec 4>&-
+same "recording: a metering that is killed: nothing is said at the end" "" "$(cat "$room/end")"
+# What can not be read or written.
+head -c $((44 + 2900)) "$good" >"$room/bytes"
+python3 - "$room/bytes" <<'FAILS' >"$room/got" 2>"$room/err" 3>"$room/end"
+import os, subprocess, sys
+source, sink = os.pipe()
+os.set_blocking(source, False)
+os.write(sink, open(sys.argv[1], "rb").read())
+subprocess.run(["tests/run-program", "recording"], stdin=source, pass_fds=[3])
+FAILS
+same "recording: a metering with a read that fails: what is told, and said at the end" "recording: standard input: Resource temporarily unavailable " "$(cat "$room/err") $(cat "$room/end")"
+same_file "recording: a metering with a read that fails: what came before it" <(head -c 48 "$room/due") "$room/got"
+run <"$good" >/dev/full 2>"$room/err" 3>"$room/end"
+same "recording: a metering on a full disk" "recording: standard output: No space left on device " "$(cat "$room/err") $(cat "$room/end")"
+run <"$good" >&- 2>"$room/err" 3>"$room/end"
+same "recording: a metering without standard output" "recording: standard output: Bad file descriptor " "$(cat "$room/err") $(cat "$room/end")"
+closes "a metering with a close that fails" "recording: standard output: Input/output error" 1 "$room/due" "$room/got"
+
+# Recordings of hours, up to the largest that are known, with a loud chunk behind the samples, which is not heard. They are not
+# made where an emulator runs the program, since it would take minutes.
+long() { # CHANNELS SIZE: silence
+    wav --channels "$1" --samples 0 --size "$2"
+    head -c "$2" /dev/zero
+    printf 'LIST\x30\x75\0\0'
+    head -c 30000 /dev/zero | tr '\0' '\177'
+}
+if [ "$(uname -m)" = x86_64 ]; then
+    for size in 2147418112 2147479552 2147483646 2147483648 4294967294; do
+        long 3 $size 2>/dev/null | run 2>"$room/err" 3>"$room/end" >"$room/got"
+        same "recording: a metering of three channels of $size bytes: what is told, and said at the end" " 0" "$(cat "$room/err") $(cat "$room/end")"
+        same "recording: a metering of three channels of $size bytes: a record for each 10 ms, and all are silent" \
+            "$((12 + 12 * ((size - size % 6 + 2879) / 2880))) 0" "$(wc -c <"$room/got") $(tail -c +13 "$room/got" | tr -d '\0' | wc -c)"
+    done
+    flat 279612 480 >"$room/hours.flat"
+    long 8 2147418112 2>/dev/null | run "$room/hours.flat" 2>"$room/err" 3>"$room/end" | tail -c +45 | cmp - <(head -c 2147418112 /dev/zero) >"$room/apart" 2>&1
+    same "recording: 46 minutes of eight channels, 2147418112 bytes, and a chunk behind them: the silence, and no more" "" "$(cat "$room/apart")"
+    same "recording: 46 minutes of eight channels: what is told, and said at the end" "recording: 46 min 0" "$(tail -n 1 "$room/err") $(cat "$room/end")"
 fi
 
 # As a volunteer runs it.
