@@ -1,5 +1,5 @@
 #!/usr/bin/env bash
-# The program `recording`, run from outside, the meter, and the cough of examples/cough.
+# The program `recording`, run from outside: levelling and metering; the meter, and the cough of examples/cough.
 cd "$(dirname "$0")/.." || exit 1
 . tests/check.bash
 if [ ! -f target/bin/recording ]; then
@@ -24,7 +24,11 @@ run() { tests/run-program recording "$@"; }
 kept() { run "$@" >"$room/got" 2>"$room/err" 3>"$room/end"; }
 # What it says at the end where this was told: 0 where nothing was, the number of a refusal, otherwise nothing.
 end_of() { # LINES
-    if [ -z "$1" ]; then echo 0; else sed -n 's/^recording: the strip is refused with \([0-9]*\) at .*/\1/p' <<<"$1"; fi
+    if [ -z "$1" ]; then echo 0; else sed -n 's/^[0-9]* R \([0-9]*\)$/\1/p' <<<"$1"; fi
+}
+# A line as it is told: that of a refused strip stands for itself.
+line_of() { # LINE
+    if [[ $1 =~ ^[0-9]+\ R\ [0-9]+$ ]]; then echo "$1"; else echo "recording: $1"; fi
 }
 for samples in 40 160 480; do strip 10 "$samples" >"$room/$samples.strip"; done
 for samples in 80 480; do flat 10 "$samples" >"$room/$samples.flat"; done
@@ -41,12 +45,13 @@ same "recording: nothing is told, and 0 is said at the end" " 0" "$(cat "$room/e
 
 # What is refused: one line each, and not a byte of a recording.
 refuses() { # NAME LINE WORDS..: the file is standard input
-    local name=$1 line=$2
+    local name=$1 line
+    line=$(line_of "$2")
     shift 2
     kept "$@"
-    same "recording: $name" "recording: $line" "$(cat "$room/err")"
+    same "recording: $name" "$line" "$(cat "$room/err")"
     same "recording: $name: nothing is written" 0 "$(wc -c <"$room/got")"
-    same "recording: $name: what is said at the end" "$(end_of "recording: $line")" "$(cat "$room/end")"
+    same "recording: $name: what is said at the end" "$(end_of "$line")" "$(cat "$room/end")"
 }
 good=$room/good.wav
 wav --samples 4800 >"$good"
@@ -61,8 +66,8 @@ for bytes in 4096 4097 9000; do
     refuses "a path of the output of $bytes bytes" "the output: File name too long" "$room/480.strip" "$(printf "%${bytes}s" "" | tr ' ' a)" <"$good"
 done
 refuses "a folder in place of the strip" "the strip: Is a directory" "$room" <"$good"
-refuses "a strip that is cut in its head" "the strip is refused with 5 at its head" <(head -c 20 "$room/480.strip") <"$good"
-refuses "a strip of another version" "the strip is refused with 7 at its head" "$good" <"$good"
+refuses "a strip that is cut in its head" "0 R 5" <(head -c 20 "$room/480.strip") <"$good"
+refuses "a strip of another version" "0 R 7" "$good" <"$good"
 refuses "an empty input" "not a WAV file" "$room/480.strip" </dev/null
 refuses "a text" "not a WAV file" "$room/480.strip" <README.md
 refuses "a file of eleven bytes" "not a WAV file" "$room/480.strip" < <(head -c 11 "$good")
@@ -93,9 +98,9 @@ refuses "another rate than the strip's" "the strip has 480 samples a frame, and 
 # What ends it on the way: what came before it is written.
 stops() { # NAME LINE BYTES STRIP: the file is standard input; BYTES are those of the samples
     kept "$4"
-    same "recording: $1" "recording: $2" "$(cat "$room/err")"
+    same "recording: $1" "$(line_of "$2")" "$(cat "$room/err")"
     same "recording: $1: what came before it is written" "$((44 + $3))" "$(wc -c <"$room/got")"
-    same "recording: $1: what is said at the end" "$(end_of "recording: $2")" "$(cat "$room/end")"
+    same "recording: $1: what is said at the end" "$(end_of "$(line_of "$2")")" "$(cat "$room/end")"
 }
 wav --samples 4800 --short 1000 >"$room/cut.wav"
 stops "a recording that is cut" "the WAV file is cut: 1000 bytes of its samples are missing" 8600 "$room/480.strip" <"$room/cut.wav"
@@ -103,10 +108,10 @@ stops "a recording that is cut inside a sample" "the WAV file is cut: 2 bytes of
 stops "a strip that is too short" "the strip ends before the recording, which goes on with frame 11" 9600 "$room/480.strip" < <(wav --samples 4801)
 stops "a strip that is too long" "the recording ends before the strip, which goes on with record 10" 8160 "$room/480.strip" < <(wav --samples 4080)
 stops "a strip for no sample" "the recording ends before the strip, which goes on with record 1" 0 "$room/480.strip" < <(wav --samples 0)
-stops "a record that is cut" "the strip is refused with 5 at record 10" 8640 <(head -c 240 "$room/480.strip") <"$good"
-stops "a record of a wrong length" "the strip is refused with 6 at record 3" 1920 \
+stops "a record that is cut" "10 R 5" 8640 <(head -c 240 "$room/480.strip") <"$good"
+stops "a record of a wrong length" "3 R 6" 1920 \
     <(head -c 70 "$room/480.strip"; printf '\0\x15'; tail -c +73 "$room/480.strip") <"$good"
-stops "a record whose figure is no number" "the strip is refused with 2 at record 1" 0 \
+stops "a record whose figure is no number" "1 R 2" 0 \
     <(head -c 28 "$room/480.strip"; printf '\x7f\xc0\0\0'; tail -c +33 "$room/480.strip") <"$good"
 
 # However the file says what it is: the samples come out the same. With the flat strip they are those that went in.
@@ -344,7 +349,7 @@ flat 9 480 >"$room/nine.flat"
 head -c $((44 + 8640)) "$good" >"$room/8640.wav"
 righted "a strip that ends, and a named output" "4294967295 4294967295" "recording: the strip ends before the recording, which goes on with frame 10" \
     "$room/nine.flat" "$room/8640.wav" < <(wav --samples 4800 --size 4294967295)
-righted "a record that is refused, and a named output" "4294967295 4294967295" "recording: the strip is refused with 5 at record 10" \
+righted "a record that is refused, and a named output" "4294967295 4294967295" "10 R 5" \
     <(head -c 240 "$room/480.flat") "$room/8640.wav" < <(wav --samples 4800 --size 4294967295)
 # Standard output is not sought, though it be a file: it gets the size that came in.
 kept "$room/480.flat" < <(wav --samples 4800 --size 4294967295)
@@ -376,7 +381,7 @@ stays "samples of 24 bits" "the samples are not 16-bit PCM" "$room/480.flat" < <
 stays "44100 Hz" "10 ms at 44100 Hz are no whole frame: 8000, 12000, 16000, 24000, 32000 or 48000 Hz can be levelled: sox in.wav -r 48000 out.wav makes such a file" \
     "$room/480.flat" < <(wav --rate 44100)
 stays "another rate than the strip's" "the strip has 480 samples a frame, and the recording 160" "$room/480.flat" < <(wav --rate 16000)
-stays "a strip of another version" "the strip is refused with 7 at its head" "$good" <"$good"
+stays "a strip of another version" "0 R 7" "$good" <"$good"
 stays "no such strip" "the strip: No such file or directory" "$room/nothing" <"$good"
 
 # A disk that is full: it is told, and nothing is said at the end. Where root may mount one, a small disk, on which the head has
@@ -411,9 +416,9 @@ same_file "recording: nobody listens at the end: the output" "$good" "$out"
 
 # A close that fails, as it may where a disk is far away: the kernel is told to refuse it, where it can be. The descriptors are
 # known where no emulator takes some, and only the program itself may be filtered, so it is started here.
-closes() { # NAME TOLD DESCRIPTOR WORDS..
-    local name=$1 told=$2 descriptor=$3
-    shift 3
+closes() { # NAME TOLD DESCRIPTOR DUE WRITTEN WORDS..: what is due is written in spite of it
+    local name=$1 told=$2 descriptor=$3 due=$4 written=$5
+    shift 5
     python3 - "$descriptor" "$good" "$@" <<'CLOSES' >"$room/got" 2>"$room/err" 3>"$room/end"
 import ctypes, os, platform, shutil, struct, sys
 kit = os.environ.get("RATTLE_HOME") or os.path.dirname(os.path.dirname(os.path.realpath(shutil.which("rt"))))
@@ -434,11 +439,11 @@ CLOSES
         echo "ok recording: $name: not tried, since this system does not filter its system calls"
     else
         same "recording: $name: what is told, and said at the end" "$told " "$(cat "$room/err") $(cat "$room/end")"
-        same_file "recording: $name: all was written" "$good" "$(if [ $# -eq 1 ]; then echo "$room/got"; else echo "$2"; fi)"
+        same_file "recording: $name: all was written" "$due" "$written"
     fi
 }
-closes "a close of standard output that fails" "recording: standard output: Input/output error" 1 "$room/480.flat"
-closes "a close of a named output that fails" "recording: the output: Input/output error" 5 "$room/480.flat" "$out"
+closes "a close of standard output that fails" "recording: standard output: Input/output error" 1 "$good" "$room/got" "$room/480.flat"
+closes "a close of a named output that fails" "recording: the output: Input/output error" 5 "$good" "$out" "$room/480.flat" "$out"
 
 # A program that is killed says nothing at the end, however much it has written.
 mkfifo "$room/kill"
@@ -493,6 +498,114 @@ else
     echo "not ok recording: two minutes take no more memory than a second ($before kB, $after kB)"
 fi
 
+# Without a word it meters: twelve bytes with the samples of 10 ms, the channels and the size that the file says, and then for
+# each 10 ms twelve, the largest sum of the squares of a channel and the largest magnitude.
+metering() { # FILE [SIZE]: what is due of a file with a head of 44 bytes; the size that it says, where that is another
+    python3 - "$@" <<'METERING'
+import struct, sys
+file = open(sys.argv[1], "rb").read()
+channels, rate = struct.unpack_from("<HI", file, 22)
+size = int(sys.argv[2]) if len(sys.argv) > 2 else struct.unpack_from("<I", file, 40)[0]
+whole = len(file[44:]) // (2 * channels) * channels
+sound = struct.unpack(f"<{whole}h", file[44 : 44 + 2 * whole])
+write = sys.stdout.buffer.write
+write(struct.pack("<III", rate // 100, channels, size))
+part = rate // 100 * channels
+for at in range(0, len(sound), part):
+    now = sound[at : at + part]
+    square = max(sum(x * x for x in now[c::channels]) for c in range(channels))
+    write(struct.pack("<QI", square, max(abs(x) for x in now)))
+METERING
+}
+meters() { # NAME TOLD DUE: the file is standard input
+    kept
+    same "recording: a metering of $1: what is told, and said at the end" "$2 $(end_of "$2")" "$(cat "$room/err") $(cat "$room/end")"
+    same_file "recording: a metering of $1" "$3" "$room/got"
+}
+wav --rate 4000 --channels 2 --samples 1015 --seed 3 >"$room/in.wav"
+meters "the stored WAV file" "" <(metering "$room/in.wav") <crates/recording/stdin
+for channels in 1 2 3 8; do
+    wav --rate 8000 --channels $channels --samples 793 --seed $channels --loud 32767 --last -32768 >"$room/in.wav"
+    meters "$channels channels, and a short last frame" "" <(metering "$room/in.wav") <"$room/in.wav"
+    meters "$channels channels of ffmpeg's size" "" <(metering "$room/in.wav" 4294967295) \
+        < <(head -c 40 "$room/in.wav"; printf '\xff\xff\xff\xff'; tail -c +45 "$room/in.wav")
+done
+meters "a whole number of frames" "" <(metering "$good") <"$good"
+meters "a file in pieces" "" <(metering "$good") < <(pieces "$good" 1 3 9 5003)
+meters "an extended format with a mask" "" <(metering "$good") < <(wav --samples 4800 --extended --mask 4 --odd-list)
+meters "chunks after the samples" "" <(metering "$good") < <(wav --samples 4800 --late)
+meters "a size that is no whole number of samples" "" <(metering "$good" 9601) < <(wav --samples 4800 --size 9601)
+meters "sox's size" "" <(metering "$good" 2147479552) < <(wav --samples 4800 --size 2147479552)
+meters "a file without samples" "" <(metering "$room/empty.wav") <"$room/empty.wav"
+meters "a size of 0, and samples" "$none" <(metering "$room/empty.wav") < <(wav --samples 4800 --size 0)
+meters "a recording that is cut" "$(missing 1000)" <(metering "$room/8600.wav" 9600) <"$room/cut.wav"
+meters "a recording that is cut inside a sample" "$(missing 1000)" <(metering "$room/8600.wav" 9600) < <(wav --samples 4800 --short 999)
+refuses "a metering of a text" "not a WAV file" <README.md
+refuses "a metering of nothing" "not a WAV file" </dev/null
+refuses "a metering of a folder" "standard input: Is a directory" <.
+refuses "a metering of a file that ends after its start" "the WAV file ends before its samples" < <(head -c 12 "$good")
+refuses "a metering of samples before the format" "the WAV file does not say its format before its samples" < <(head -c 12 "$good"; printf 'data\x02\0\0\0\0\0')
+refuses "a metering of a format of 15 bytes" "the format of the WAV file has fewer than 16 bytes" < <(wav --format-bytes 15)
+refuses "a metering of samples of 24 bits" "the samples are not 16-bit PCM" < <(wav --bits 24 --group 3)
+refuses "a metering of a group of samples that is too long" "the samples of the channels do not lie side by side, in two bytes each" < <(wav --group 4)
+refuses "a metering of nine channels" "the sound has 9 channels: 1 to 8 can be levelled" < <(wav --channels 9)
+refuses "a metering at 44100 Hz" "10 ms at 44100 Hz are no whole frame: 8000, 12000, 16000, 24000, 32000 or 48000 Hz can be levelled: sox in.wav -r 48000 out.wav makes such a file" \
+    < <(wav --rate 44100)
+# Each record is written as soon as its sound came.
+metering "$good" >"$room/due"
+tests/run-program recording <"$room/kill" >"$room/got" 2>"$room/err" 3>"$room/end" &
+program=$!
+exec 4>"$room/kill"
+head -c 44 "$good" >&4
+for frame in 0 1 2 3; do
+    for ((i = 0; i < 600; i++)); do
+        [ "$(wc -c <"$room/got")" -ge $((12 + 12 * frame)) ] && break
+        sleep 0.05
+    done
+    same_file "recording: a metering as the sound comes: after $frame frames" <(head -c $((12 + 12 * frame)) "$room/due") "$room/got"
+    tail -c +$((45 + 960 * frame)) "$good" | head -c 960 >&4
+done
+{ kill -9 "$program" && wait "$program"; } 2>/dev/null
+exec 4>&-
+same "recording: a metering that is killed: nothing is said at the end" "" "$(cat "$room/end")"
+# What can not be read or written.
+head -c $((44 + 2900)) "$good" >"$room/bytes"
+python3 - "$room/bytes" <<'FAILS' >"$room/got" 2>"$room/err" 3>"$room/end"
+import os, subprocess, sys
+source, sink = os.pipe()
+os.set_blocking(source, False)
+os.write(sink, open(sys.argv[1], "rb").read())
+subprocess.run(["tests/run-program", "recording"], stdin=source, pass_fds=[3])
+FAILS
+same "recording: a metering with a read that fails: what is told, and said at the end" "recording: standard input: Resource temporarily unavailable " "$(cat "$room/err") $(cat "$room/end")"
+same_file "recording: a metering with a read that fails: what came before it" <(head -c 48 "$room/due") "$room/got"
+run <"$good" >/dev/full 2>"$room/err" 3>"$room/end"
+same "recording: a metering on a full disk" "recording: standard output: No space left on device " "$(cat "$room/err") $(cat "$room/end")"
+run <"$good" >&- 2>"$room/err" 3>"$room/end"
+same "recording: a metering without standard output" "recording: standard output: Bad file descriptor " "$(cat "$room/err") $(cat "$room/end")"
+closes "a metering with a close that fails" "recording: standard output: Input/output error" 1 "$room/due" "$room/got"
+
+# Recordings of hours, up to the largest that are known, with a loud chunk behind the samples, which is not heard. They are not
+# made where an emulator runs the program, since it would take minutes.
+long() { # CHANNELS SIZE: silence
+    wav --channels "$1" --samples 0 --size "$2"
+    head -c "$2" /dev/zero
+    printf 'LIST\x30\x75\0\0'
+    head -c 30000 /dev/zero | tr '\0' '\177'
+}
+if [ "$(uname -m)" = x86_64 ]; then
+    for size in 2147418112 2147479552 2147483646 2147483648 4294967294; do
+        long 3 $size 2>/dev/null | run 2>"$room/err" 3>"$room/end" >"$room/got"
+        same "recording: a metering of three channels of $size bytes: what is told, and said at the end" " 0" "$(cat "$room/err") $(cat "$room/end")"
+        same "recording: a metering of three channels of $size bytes: a record for each 10 ms, and all are silent" \
+            "$((12 + 12 * ((size - size % 6 + 2879) / 2880))) 0" "$(wc -c <"$room/got") $(tail -c +13 "$room/got" | tr -d '\0' | wc -c)"
+    done
+    flat 279612 480 >"$room/hours.flat"
+    long 8 2147418112 2>/dev/null | run "$room/hours.flat" 2>"$room/err" 3>"$room/end" | tail -c +45 | cmp - <(head -c 2147418112 /dev/zero) >"$room/apart" 2>&1
+    same "recording: 46 minutes of eight channels, 2147418112 bytes, and a chunk behind them: the silence, and no more" "" "$(cat "$room/apart")"
+    same "recording: 46 minutes of eight channels: what is told, and said at the end" "recording: 46 min 0" "$(tail -n 1 "$room/err") $(cat "$room/end")"
+fi
+
 # As a volunteer runs it.
 status() { "$@" >/dev/null 2>&1; echo $?; }
 ./level recording "$room/480.flat" <"$good" >"$room/got" 2>"$room/err"
@@ -503,7 +616,7 @@ same_file "recording: ./level recording from another folder" "$good" "$room/got"
 ./level recording "$room/long.strip" <"$room/long.wav" >/dev/null 2>"$room/err"
 same "recording: ./level ends with status 0 where only minutes are told" "0 recording: 1 min recording: 2 min" "$? $(paste -sd' ' "$room/err")"
 same "recording: ./level ends with status 1 where the recording is cut" 1 "$(status ./level recording "$room/480.strip" <"$room/cut.wav")"
-same "recording: ./level ends with status 1 where there is no such strip" 1 "$(status ./level recording "$room/nothing" <"$good")"
+same "recording: ./level ends with status 2 where there is no such strip" 2 "$(status ./level recording "$room/nothing" <"$good")"
 same "recording: ./level ends with status 1 where the strip is too long" 1 "$(status ./level recording "$room/long.strip" < <(wav --rate 4000))"
 same "recording: ./level ends with status 2 without a strip" 2 "$(status ./level recording)"
 ./level recording "$room/480.strip" <"$good" >/dev/full 2>"$room/err"
@@ -512,31 +625,6 @@ same "recording: a full disk" "1 recording: standard output: No space left on de
 same "recording: ./level ends with status 1 where there is no standard output" 1 $?
 ./level recording "$room/long.strip" <"$room/long.wav" 2>"$room/err" | head -c 0
 same "recording: a reader that is gone" "1 recording: standard output: Broken pipe" "${PIPESTATUS[0]} $(cat "$room/err")"
-
-# The meter. A tone at half of full scale has its peak at -6.02 dBFS and its rms at -9.03; silence is at -90.
-python3 - >"$room/tone.wav" <<'TONE'
-import math, struct, sys
-sound = [0] * 480 + [round(16384 * math.sin(math.pi * i / 24)) for i in range(480)] + [0] * 100
-body = struct.pack(f"<{len(sound)}h", *sound)
-sys.stdout.buffer.write(b"RIFF" + struct.pack("<I", 36 + len(body)) + b"WAVEfmt " + struct.pack("<IHHIIHH", 16, 1, 1, 48000, 96000, 2, 16))
-sys.stdout.buffer.write(b"data" + struct.pack("<I", len(body)) + body)
-TONE
-cat >"$room/lines" <<'LINES'
-head threshold 12 samples 480
-# probability rms peak noise envelope
-0.05 -90.00 -90.00 -90.00 -90.00
-0.95 -9.03 -6.02 -90.00 -6.02
-0.05 -90.00 -90.00 -90.00 -90.00
-LINES
-tools/meter <"$room/tone.wav" >"$room/got"
-same_file "meter: silence, a tone, and a short frame of silence" "$room/lines" "$room/got"
-same "meter: a level above which it is speech, noise and envelope that are held, a threshold" \
-    "head threshold 7 samples 480 0.05 -90.00 -90.00 -70.00 -30.00 0.05 -9.03 -6.02 -70.00 -30.00" \
-    "$(tools/meter --speech-above -9 --noise -70 --envelope -30 --threshold 7 <"$room/tone.wav" | grep -v '^#' | head -n 3 | paste -sd' ')"
-same "meter: what it prints makes a strip, with a record for each frame, that levels the recording" "0" \
-    "$(tools/meter <crates/recording/stdin | tools/strip-maker to-strip >"$room/metered"; status ./level recording "$room/metered" <crates/recording/stdin)"
-tools/meter <README.md >"$room/got" 2>"$room/err"
-same "meter: a text is no recording" "1 meter: not a WAV file" "$? $(cat "$room/err")"
 
 # The cough.
 examples/cough >"$room/said" 2>"$room/err"

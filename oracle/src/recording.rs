@@ -6,8 +6,11 @@ use crate::chain::ruled;
 use crate::strip;
 use std::io::{self, Error, ErrorKind, Read, Write};
 
-/// A program that does not know the size of its samples writes one from here on.
-const UNKNOWN: u32 = 0x7fff_0000;
+/// What a program writes in the place of a size that it does not know, since it writes to a pipe: ffmpeg the largest number,
+/// and sox another one, less what is left of it over groups of samples of so many bytes.
+fn is_unknown(size: u32, group: u32) -> bool {
+    size == u32::MAX || size == 0x7fff_f000 / group * group
+}
 
 fn wrong<T>(what: &str) -> io::Result<T> {
     Err(Error::new(ErrorKind::InvalidData, what))
@@ -47,12 +50,14 @@ fn read(file: &[u8]) -> io::Result<Wave<'_>> {
                 format = Some(((tag >> 16) as usize, rate));
             }
             (b"data", Some((channels, rate))) => {
-                let end = if size >= UNKNOWN { body.len() } else { body.len().min(size as usize) };
-                let sound = &body[..end - end % (2 * channels)];
+                let group = 2 * channels;
+                let unknown = is_unknown(size, group as u32);
+                let end = if unknown { body.len() } else { body.len().min(size as usize) };
+                let sound = &body[..end - end % group];
                 return Ok(Wave {
                     channels,
                     rate,
-                    size: if size >= UNKNOWN { size } else { size - size % (2 * channels) as u32 },
+                    size: if unknown { size } else { size - size % group as u32 },
                     sound,
                 });
             }

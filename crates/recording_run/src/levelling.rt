@@ -297,13 +297,14 @@ pub fn after_write(run: Run, written: bool) -> Run
     ensures { λ r. ⌜ r ≡ afterWrite run written ⌝ }
 {
     let chain = run.chain;
+    let refused = run.refused;
     Run {
         chain,
         number: run.number,
         left: run.left,
         more: run.more & written,
         well: run.well & written,
-        refused: run.refused,
+        refused,
     }
 }
 
@@ -380,14 +381,14 @@ pub fn put_right(
     ensures { λ r. ⌜ r ≡ righted run channels samples mask size (now (out .entry)) .n ⌝ }
     ensures { λ _. ⌜ now (out .exit) ≡ righted run channels samples mask size (now (out .entry)) .out ⌝ }
 {
-    let long = head_bytes(mask);
-    let most = less(MOST, less(long, SIZED_BYTES));
+    let length = head_bytes(mask);
+    let most = less(MOST, less(length, SIZED_BYTES));
     let extent = extent_of(size, channels);
     let written = less(extent.left, run.left);
     if written <= most {
         if run.well & !(written == extent.size as usize) {
             let reply = write_head(channels, samples, mask, written as u32, out);
-            floats::pick_usize(reply == DONE, long, 0)
+            floats::pick_usize(reply == DONE, length, 0)
         } else {
             0
         }
