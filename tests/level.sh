@@ -105,7 +105,7 @@ mkfifo "$room/pipe"
 program_of() { # the program below ./level of this number, once it is there
     local child
     for child in $(cat "/proc/$1/task/$1/children" 2>/dev/null); do
-        tr '\0' '\n' <"/proc/$child/cmdline" 2>/dev/null | grep -q '/target/bin/' && echo "$child" && return
+        { tr "\0" "\n" <"/proc/$child/cmdline"; } 2>/dev/null | grep -q '/target/bin/' && echo "$child" && return
     done
     return 1
 }
@@ -200,6 +200,9 @@ run recording --threshold 1 --noise -60 examples/two-readers.wav "$room/out.wav"
 same "level: the meter's words: status 0, and another recording" "0 no" "$ended $(yes_no cmp "$room/due.wav" "$room/out.wav")"
 (cd "$room" && "$OLDPWD/level" recording in.wav here.wav) 2>/dev/null
 same_file "level: from another folder, with its own paths" "$room/due.wav" "$room/here.wav"
+rm -f "$room/out.wav"
+./level recording examples/two-readers.wav "$room/out.wav" >&- 2>/dev/null
+same_file "level: OUT.wav, and no standard output: the same recording" "$room/due.wav" "$room/out.wav"
 echo kept >"$room/out.wav"
 run recording README.md "$room/out.wav"
 same "level: no WAV file: status 1, and one line for it" "1 recording: not a WAV file" "$ended $(grep -v 'plain meter' "$room/err")"
