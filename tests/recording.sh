@@ -594,7 +594,7 @@ long() { # CHANNELS SIZE: silence
     head -c 30000 /dev/zero | tr '\0' '\177'
 }
 if [ "$(uname -m)" = x86_64 ]; then
-    for size in 2147418112 2147479552 2147483646 2147483648 4294967294; do
+    for size in 2147418112 2147483648 4294967294; do
         long 3 $size 2>/dev/null | run 2>"$room/err" 3>"$room/end" >"$room/got"
         same "recording: a metering of three channels of $size bytes: what is told, and said at the end" " 0" "$(cat "$room/err") $(cat "$room/end")"
         same "recording: a metering of three channels of $size bytes: a record for each 10 ms, and all are silent" \
