@@ -68,6 +68,7 @@ done
 refuses "a folder in place of the strip" "the strip: Is a directory" "$room" <"$good"
 refuses "a strip that is cut in its head" "0 R 5" <(head -c 20 "$room/480.strip") <"$good"
 refuses "a strip of another version" "0 R 7" "$good" <"$good"
+refuses "a text, and a strip of another version: the sound comes first" "not a WAV file" "$good" <README.md
 refuses "an empty input" "not a WAV file" "$room/480.strip" </dev/null
 refuses "a text" "not a WAV file" "$room/480.strip" <README.md
 refuses "a file of eleven bytes" "not a WAV file" "$room/480.strip" < <(head -c 11 "$good")
