@@ -8,9 +8,9 @@ use Rattle.floats.specs.Kinds.{isNegativeZero}
 use Rattle.units.specs.Ranges.{closed, above}
 use Rattle.units.specs.declared.settings.Settings.{Settings}
 
--- "T 1 to 200": the largest number of adjacent speech frames that can be asked for
+-- "a run threshold of up to 3,000 frames": the largest number of adjacent speech frames that can be asked for
 abbrev pub largestThreshold : ℕ
-largestThreshold = 200
+largestThreshold = 3000
 
 -- a threshold lies from 1 to the largest
 abbrev pub threshold : ℕ → Bool

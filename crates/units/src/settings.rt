@@ -5,8 +5,8 @@ ghost use Rattle.units.specs.Settings.{accepted, threshold, setting, usu
 use crate::kinds::Db;
 use crate::kinds::Dbfs;
 
-// The largest number of adjacent speech frames that can be asked for.
-pub const LARGEST_THRESHOLD: u32 = 200;
+// The largest number of adjacent speech frames that can be asked for: thirty seconds.
+pub const LARGEST_THRESHOLD: u32 = 3000;
 
 // The Rust's AdaptiveDigitalConfig.
 #[repr(C)]
