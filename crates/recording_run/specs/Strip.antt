@@ -4,7 +4,6 @@ use mathlib.Core.List.{List}
 use Prim.Native.Nat.{ℕ, _+_, _-_}
 use lib.Dec.{ltb}
 use lib.ListN.{take, drop}
-use Rattle.strip_format.specs.Format.{one}
 use Rattle.strip_reader.specs.Reader.{Handed, more, handed, isMore, fresh, finished, next}
 use Rattle.recording_run.specs.declared.strip.Source.{Source}
 use Rattle.recording_run.specs.declared.strip.Drawn.{Drawn}
@@ -25,7 +24,7 @@ drawnOf d = record { source = d .source; got = handed (d .got); more = d .more }
 -- the bytes of the block that are filled and not used, until something comes out of them
 unfoldable pub drawnFrom : Source → List ℕ → Drawing
 drawnFrom source block =
-    let t = next one (source .reader) (drop (source .at) (take (source .n) block)) in
+    let t = next (source .reader) (drop (source .at) (take (source .n) block)) in
     record {
       source = record { reader = t .reader; at = source .at + t .used; n = source .n };
       got = t .got;

@@ -11,7 +11,8 @@ use Rattle.units.specs.Figures as Figure
 use Rattle.units.specs.declared.figures.Figures.{Figures}
 use Rattle.frames.specs.Shape.{isSamples}
 use Rattle.strip_format.specs.Fields.{size, numberAt, fieldsAt}
-use Rattle.strip_format.specs.Format.{Version, headFields, headLength, headOf, noHead, headBytes, recordFields, recordLength, figuresOf, recordBytes, gapLength, Entry, figures, gap}
+use Rattle.strip_format.specs.Format.{numberOf, largestSaid, hasGaps, headFields, headLength, headOf, noHead, headBytes, recordFields, recordLength, figuresOf, recordBytes, gapLength, Entry, figures, gap}
+use Rattle.strip_format.specs.declared.Version.{Version}
 use Rattle.strip_format.specs.declared.Head.{Head}
 use Rattle.strip_format.specs.declared.HeadRead.{HeadRead}
 use Rattle.strip_format.specs.declared.Found.{Found}
@@ -19,31 +20,32 @@ use Rattle.strip_format.specs.declared.Found.the-variants.{None, Record}
 use Rattle.strip_format.specs.declared.RecordRead.{RecordRead}
 
 -- ---- a head
--- "T 1 to 200": a threshold that the version can say
+-- a threshold that the version can say: from 1 to its largest
 abbrev pub isThreshold : Version → ℕ → Bool
-isThreshold v frames = leb 1 frames && leb frames (v .largest)
+isThreshold v frames = leb 1 frames && leb frames (largestSaid v)
 
 -- "then 1, 4": what a whole head is refused with
-unfoldable pub headRefusal : Version → Head → ℕ
+unfoldable pub headRefusal : Head → ℕ
 unfolding refusal isSamples Settings.accepted
-headRefusal v h = refusal (isSamples (h .samples)) (Settings.accepted (h .settings) && isThreshold v (h .threshold)) true true
+headRefusal h = refusal (isSamples (h .samples)) (Settings.accepted (h .settings) && isThreshold (h .version) (h .threshold)) true true
 
 unfoldable pub refusedHead : ℕ → HeadRead
 unfolding noHead
 refusedHead reply = record { reply = reply; head = noHead }
 
-unfoldable pub judgedHead : Version → Head → HeadRead
+unfoldable pub judgedHead : Head → HeadRead
 unfolding headRefusal refusedHead
-judgedHead v h = cond (eqb (headRefusal v h) done) (record { reply = done; head = h }) (refusedHead (headRefusal v h))
+judgedHead h = cond (eqb (headRefusal h) done) (record { reply = done; head = h }) (refusedHead (headRefusal h))
 
--- "A strip's order: fewer than 3 bytes 5; version 7; head length 6; cut 5; then 1, 4."
+-- A strip read in a version: "A strip's order: fewer than 3 bytes 5; version 7; head length 6; cut 5; then 1, 4." In the version that it says it is
+-- refused with 7 where that is neither 1 nor 2, and its length is judged after the version.
 unfoldable pub readHead : Version → List ℕ → HeadRead
 unfolding refusedHead judgedHead numberAt headOf fieldsAt
 readHead v strip =
     cond (leb 3 (length strip))
-    (cond (eqb (numberAt strip 2 1) (v .number))
+    (cond (eqb (numberAt strip 2 1) (numberOf v))
     (cond (eqb (numberAt strip 0 2) (headLength v))
-    (cond (leb (size (headFields v)) (length strip)) (judgedHead v (headOf (fieldsAt (headFields v) strip 0))) (refusedHead cut))
+    (cond (leb (size (headFields v)) (length strip)) (judgedHead (headOf v (fieldsAt (headFields v) strip 0))) (refusedHead cut))
     (refusedHead badLength))
     (refusedHead badVersion))
     (refusedHead cut)
@@ -75,7 +77,7 @@ judgedRecord f = cond (eqb (recordRefusal f) done) (found (figures f)) (refusedR
 
 -- a record's length that says a gap, in a version that has them
 abbrev pub isGap : Version → ℕ → Bool
-isGap v n = v .gaps && eqb n gapLength
+isGap v n = hasGaps v && eqb n gapLength
 
 -- "Record: no byte, end; one byte 5; length 6; cut 5; then 2."
 unfoldable pub readRecord : Version → List ℕ → ℕ → Read
@@ -127,9 +129,9 @@ unfoldable pub toldOf : Read → Told
 toldOf r = record { reply = r .reply; said = saidOf (r .found) }
 
 -- ---- writing: what is refused for nothing else is put where it fits
-unfoldable pub putHead : Version → Head → List ℕ → Put
+unfoldable pub putHead : Head → List ℕ → Put
 unfolding put headRefusal headBytes
-putHead v h out = put (headRefusal v h) (headBytes v h) out
+putHead h out = put (headRefusal h) (headBytes h) out
 
 unfoldable pub putRecord : Figures → List ℕ → Put
 unfolding put recordRefusal recordBytes

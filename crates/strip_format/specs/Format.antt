@@ -1,43 +1,62 @@
 -- The strip's head, its records and the whole of it: one description of each, from which reading and writing follow. Definitions only.
-use mathlib.Core.Bool.{Bool, false}
+use mathlib.Core.Bool.{Bool, false, cond}
 use mathlib.Core.List.{List, [], _∷_, _++_}
 use Prim.Native.Nat.{ℕ, _-_}
+use lib.Dec.{eqb}
 use lib.ListN.{getD}
 use Rattle.bits.specs.Floats.{floatOf, patternOf}
-use Rattle.units.specs.Settings.{unset}
+use Rattle.units.specs.Settings.{largestThreshold, unset}
 use Rattle.units.specs.declared.figures.Figures.{Figures}
-use Rattle.strip_format.specs.Fields.{size, written}
+use Rattle.strip_format.specs.Fields.{size, numberAt, written}
+use Rattle.strip_format.specs.declared.Version.{Version}
+use Rattle.strip_format.specs.declared.Version.the-variants.{One, Two}
 use Rattle.strip_format.specs.declared.Head.{Head}
 
--- a version of the strip: its number, the bytes of its threshold, the largest threshold that it can say, and whether a record may be a gap
-pub record Version : Type 0 where
-  pub number : ℕ
-  pub threshold : ℕ
-  pub largest : ℕ
-  pub gaps : Bool
+-- ---- the versions
+-- the number that says it
+abbrev pub numberOf : Version → ℕ
+numberOf One = 1
+numberOf Two = 2
 
--- "version 1, T (1 byte)"; "T 1 to 200"; a record of length 0 is refused
-abbrev pub one : Version
-one = record { number = 1; threshold = 1; largest = 200; gaps = false }
+-- "T (1 byte)"; "T in two bytes"
+abbrev pub thresholdBytes : Version → ℕ
+thresholdBytes One = 1
+thresholdBytes Two = 2
+
+-- the largest threshold that it can say: "Version 1 strips are still read, with T to 200 as before"; version 2 says all that a chain takes
+abbrev pub largestSaid : Version → ℕ
+largestSaid One = 200
+largestSaid Two = largestThreshold
+
+-- whether a record of length 0 is a gap: in both versions it is refused
+abbrev pub hasGaps : Version → Bool
+hasGaps One = false
+hasGaps Two = false
+
+-- the version that a strip is read in: 2 where its third byte says 2, and otherwise 1, in which any other number than 1 is refused
+unfoldable pub versionOf : List ℕ → Version
+unfolding numberAt
+versionOf strip = cond (eqb (numberAt strip 2 1) (numberOf Two)) Two One
 
 -- five floats of 4 bytes each: the settings of a head, and the figures of a record
 abbrev pub floatFields : List ℕ
 floatFields = 4 ∷ 4 ∷ 4 ∷ 4 ∷ 4 ∷ []
 
--- ---- "Head: 2-byte length 24, version 1, T (1 byte), samples (2), headroom, largest gain, initial gain, change per second, output noise"
+-- ---- "Head: 2-byte length 24, version 1, T (1 byte), samples (2), headroom, largest gain, initial gain, change per second, output noise";
+-- "Version 2 of the strip has head length 25 and T in two bytes"
 abbrev pub headFields : Version → List ℕ
-headFields v = 2 ∷ 1 ∷ v .threshold ∷ 2 ∷ floatFields
+headFields v = 2 ∷ 1 ∷ thresholdBytes v ∷ 2 ∷ floatFields
 
--- the bytes after the length's own two: 24 in version 1
+-- the bytes after the length's own two: 24 in version 1, 25 in version 2
 abbrev pub headLength : Version → ℕ
 headLength v = size (headFields v) - 2
 
 -- "floats as their bits"
-unfoldable pub headNumbers : Version → Head → List ℕ
+unfoldable pub headNumbers : Head → List ℕ
 unfolding patternOf
-headNumbers v h =
-    headLength v
-    ∷ v .number
+headNumbers h =
+    headLength (h .version)
+    ∷ numberOf (h .version)
     ∷ h .threshold
     ∷ h .samples
     ∷ patternOf (h .settings .headroom .0)
@@ -47,16 +66,17 @@ headNumbers v h =
     ∷ patternOf (h .settings .noise .0)
     ∷ []
 
--- all 0: what stands for a head that was refused
+-- what stands for a head that was refused: version 1, and all 0
 unfoldable pub noHead : Head
 unfolding unset
-noHead = record { threshold = 0; samples = 0; settings = unset }
+noHead = record { version = One; threshold = 0; samples = 0; settings = unset }
 
 -- the head of its numbers, after the length and the version; the bits of a NaN give the NaN, which no setting takes
-unfoldable pub headOf : List ℕ → Head
+unfoldable pub headOf : Version → List ℕ → Head
 unfolding floatOf
-headOf ns =
+headOf v ns =
     record {
+      version = v;
       threshold = getD ns 2 0;
       samples = getD ns 3 0;
       settings =
@@ -116,9 +136,9 @@ entrySize (figures f) = size recordFields
 entrySize gap = size gapFields
 
 -- ---- the bytes of each
-unfoldable pub headBytes : Version → Head → List ℕ
+unfoldable pub headBytes : Head → List ℕ
 unfolding written headNumbers
-headBytes v h = written (headFields v) (headNumbers v h)
+headBytes h = written (headFields (h .version)) (headNumbers h)
 
 unfoldable pub recordBytes : Figures → List ℕ
 unfolding written recordNumbers
@@ -135,6 +155,6 @@ entriesBytes [] = []
 entriesBytes (e ∷ es) = entryBytes e ++ entriesBytes es
 
 -- a whole strip: its head, and its records one after the other
-unfoldable pub stripBytes : Version → Head → List Entry → List ℕ
+unfoldable pub stripBytes : Head → List Entry → List ℕ
 unfolding headBytes entriesBytes
-stripBytes v h es = headBytes v h ++ entriesBytes es
+stripBytes h es = headBytes h ++ entriesBytes es

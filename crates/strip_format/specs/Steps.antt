@@ -8,14 +8,15 @@ use lib.ListN.{length}
 use Rattle.bits.specs.Floats.{patternOf}
 use Rattle.units.specs.Replies.{done, cut, badLength, badVersion}
 use Rattle.strip_format.specs.Fields.{size, numberAt, written}
-use Rattle.strip_format.specs.Format.{Version, floatFields, headFields, headLength, recordFields, recordLength}
+use Rattle.strip_format.specs.Format.{numberOf, floatFields, headFields, headLength, recordFields, recordLength}
+use Rattle.strip_format.specs.declared.Version.{Version}
 
 -- what a strip's head is refused with before its numbers are read: 5 for fewer than 3 bytes, 7, 6, 5
 unfoldable pub headPlace : Version → List ℕ → ℕ
 unfolding numberAt
 headPlace v strip =
     cond (leb 3 (length strip))
-    (cond (eqb (numberAt strip 2 1) (v .number))
+    (cond (eqb (numberAt strip 2 1) (numberOf v))
     (cond (eqb (numberAt strip 0 2) (headLength v)) (cond (leb (size (headFields v)) (length strip)) done cut) badLength)
     badVersion)
     cut

@@ -6,7 +6,8 @@ use lib.Dec.{eqb}
 use lib.ListN.{length, drop}
 use Rattle.units.specs.Replies.{done}
 use Rattle.strip_format.specs.Fields.{size}
-use Rattle.strip_format.specs.Format.{Version, headFields, Entry, entrySize}
+use Rattle.strip_format.specs.Format.{headFields, Entry, entrySize}
+use Rattle.strip_format.specs.declared.Version.{Version}
 use Rattle.strip_format.specs.Calls.{readHead, readRecord}
 use Rattle.strip_format.specs.declared.HeadRead.{HeadRead}
 
@@ -42,6 +43,7 @@ pub record Strip : Type 0 where
   pub entries : List Entry
   pub reply : ℕ
 
+-- in a version
 unfoldable pub readStrip : Version → List ℕ → Strip
 unfolding readHead entriesOf
 readStrip v strip =

@@ -1,5 +1,5 @@
 // The strip: a head with the settings, then a record of figures for each frame. Big-endian, floats as
-// their bits. Heads and records are read from bytes and written into a lent buffer.
+// their bits. Heads of both versions and records are read from bytes and written into a lent buffer.
 
 ghost use mathlib.Core.Path.{_≡_};
 ghost use mathlib.Core.List.{_++_};
@@ -8,7 +8,8 @@ ghost use lib.ListN.{length, take, drop};
 ghost use Rattle.bits.specs.Floats.{floatOf, patternOf};
 ghost use Rattle.units.specs.Replies.{done};
 ghost use Rattle.strip_format.specs.Fields.{size, bigEndian, numberAt, fieldsAt};
-ghost use Rattle.strip_format.specs.Format.{one, floatFields, headFields, headOf, headBytes, recordFields, figuresOf, recordBytes};
+ghost use Rattle.strip_format.specs.Format.{numberOf, thresholdBytes, largestSaid, versionOf, floatFields, headFields, headOf, headBytes, recordFields, figuresOf, recordBytes};
+ghost use Rattle.strip_format.specs.declared.Version.the-variants.{One};
 ghost use Rattle.units.specs.Output.{put};
 ghost use Rattle.strip_format.specs.Calls.{headRefusal, refusedHead, judgedHead, readHead, recordRefusal, refusedRecord, judgedRecord, readRecord, told, toldOf, putHead, putRecord};
 ghost use Rattle.strip_format.specs.Steps.{headPlace, recordPlace, fiveBytes};
@@ -21,15 +22,15 @@ use units::replies::LENGTH;
 use units::replies::ROOM;
 use units::replies::VERSION;
 use units::replies::refusal;
+use units::settings::LARGEST_THRESHOLD;
 use units::settings::Settings;
 
-// The version that is read and written: its number, the bytes of its threshold, and the largest threshold that it
-// can say.
-const VERSION_ONE: u32 = 1;
+// The numbers of the versions, and the largest threshold that version 1 can say. Version 2 says all that a chain takes.
+const ONE: u32 = 1;
 
-const THRESHOLD_BYTES: usize = 1;
+const TWO: u32 = 2;
 
-const LARGEST_THRESHOLD: u32 = 200;
+const LARGEST_IN_ONE: u32 = 200;
 
 // The bytes of a length field, of which the second is the low one, and of five floats.
 const LENGTH_BYTES: usize = 2;
@@ -38,36 +39,40 @@ const LENGTH_LOW: usize = LENGTH_BYTES - 1;
 
 const FLOATS_BYTES: usize = 20;
 
-// Where the fields of a head stand, after its length: the version, the threshold, the samples and the settings.
+// Where the version and the threshold of a head stand, after its length. The bytes of the threshold are the version's.
 const VERSION_AT: usize = LENGTH_BYTES;
 
 const THRESHOLD_AT: usize = VERSION_AT + 1;
 
-const SAMPLES_AT: usize = THRESHOLD_AT + THRESHOLD_BYTES;
+// The bytes of the samples, and of all that follows the threshold.
+const SAMPLES_BYTES: usize = 2;
 
-const SAMPLES_LOW: usize = SAMPLES_AT + 1;
+const AFTER_THRESHOLD: usize = SAMPLES_BYTES + FLOATS_BYTES;
 
-const SETTINGS_AT: usize = SAMPLES_AT + 2;
-
-// The bytes of a whole head, and what its length field says: the bytes that follow it.
-pub const HEAD_BYTES: usize = SETTINGS_AT + FLOATS_BYTES;
-
-const HEAD_LENGTH: u32 = (HEAD_BYTES - LENGTH_BYTES) as u32;
+// The bytes of the longest head: that of version 2.
+pub const HEAD_BYTES: usize = THRESHOLD_AT + 2 + AFTER_THRESHOLD;
 
 // The bytes of a whole record, and what its length field says.
 pub const RECORD_BYTES: usize = LENGTH_BYTES + FLOATS_BYTES;
 
 const RECORD_LENGTH: u32 = FLOATS_BYTES as u32;
 
-// What a strip's head holds: how many adjacent speech frames make a reading, the samples of a channel, and
-// the settings.
+// The versions of the strip.
+pub enum Version {
+    One,
+    Two,
+}
+
+// What a strip's head holds: its version, how many adjacent speech frames make a reading, the samples of a channel,
+// and the settings.
 pub struct Head {
+    pub version: Version,
     pub threshold: u32,
     pub samples: usize,
     pub settings: Settings,
 }
 
-// A reply's number, and the head: all 0 where it is refused.
+// A reply's number, and the head: version 1 and all 0 where it is refused.
 pub struct HeadRead {
     pub reply: u32,
     pub head: Head,
@@ -84,6 +89,61 @@ pub enum Found {
 pub struct RecordRead {
     pub reply: u32,
     pub found: Found,
+}
+
+// The number that says a version.
+fn number(version: Version) -> u32
+    ensures { λ r. ⌜ r ≡ numberOf version ⌝ }
+    ensures { λ r. ⌜ r ≤ 2 ⌝ }
+{
+    match version {
+        Version::One => ONE,
+        Version::Two => TWO,
+    }
+}
+
+// How many bytes the threshold has.
+fn threshold_bytes(version: Version) -> usize
+    ensures { λ r. ⌜ r ≡ thresholdBytes version ⌝ }
+    ensures { λ r. ⌜ r ≤ 2 ⌝ }
+{
+    match version {
+        Version::One => 1,
+        Version::Two => 2,
+    }
+}
+
+// The largest threshold that a version can say.
+fn largest_threshold(version: Version) -> u32
+    ensures { λ r. ⌜ r ≡ largestSaid version ⌝ }
+{
+    match version {
+        Version::One => LARGEST_IN_ONE,
+        Version::Two => LARGEST_THRESHOLD,
+    }
+}
+
+// The bytes of a whole head.
+fn head_size(version: Version) -> usize
+    ensures { λ r. ⌜ r ≡ size (headFields version) ⌝ }
+    ensures { λ r. ⌜ r ≤ 27 ⌝ }
+{
+    THRESHOLD_AT + threshold_bytes(version) + AFTER_THRESHOLD
+}
+
+// The version that a strip is read in: 2 where its third byte says 2, and otherwise 1.
+fn version_of(strip: &[u8]) -> Version
+    ensures { λ r. ⌜ r ≡ versionOf (now (strip .entry)) ⌝ }
+{
+    if VERSION_AT < strip.len() {
+        if strip[VERSION_AT] as u32 == TWO {
+            Version::Two
+        } else {
+            Version::One
+        }
+    } else {
+        Version::One
+    }
 }
 
 // The number of the two bytes at a place.
@@ -107,20 +167,34 @@ fn float_at(strip: &[u8], at: usize) -> f32
     bits::float_of(bits)
 }
 
-// The head that the first bytes are, whatever its numbers.
-fn head_at(strip: &[u8]) -> Head
-    requires { ⌜ size (headFields one) ≤ length (now strip) ⌝ }
-    ensures { λ r. ⌜ r ≡ headOf (fieldsAt (headFields one) (now (strip .entry)) 0) ⌝ }
+// The threshold of a head, in as many bytes as its version has for it.
+fn threshold_at(version: Version, strip: &[u8]) -> u32
+    requires { ⌜ 3 + thresholdBytes version ≤ length (now strip) ⌝ }
+    ensures { λ r. ⌜ r ≡ numberAt (now (strip .entry)) 3 (thresholdBytes version) ⌝ }
 {
+    match version {
+        Version::One => strip[THRESHOLD_AT] as u32,
+        Version::Two => two_at(strip, THRESHOLD_AT),
+    }
+}
+
+// The head of a version that the first bytes are, whatever its numbers.
+fn head_at(version: Version, strip: &[u8]) -> Head
+    requires { ⌜ size (headFields version) ≤ length (now strip) ⌝ }
+    ensures { λ r. ⌜ r ≡ headOf version (fieldsAt (headFields version) (now (strip .entry)) 0) ⌝ }
+{
+    let at = THRESHOLD_AT + threshold_bytes(version);
+    let threshold = threshold_at(version, strip);
     Head {
-        threshold: strip[THRESHOLD_AT] as u32,
-        samples: two_at(strip, SAMPLES_AT) as usize,
+        version,
+        threshold,
+        samples: two_at(strip, at) as usize,
         settings: Settings {
-            headroom: Db(float_at(strip, SETTINGS_AT)),
-            largest: Db(float_at(strip, SETTINGS_AT + 4)),
-            initial: Db(float_at(strip, SETTINGS_AT + 8)),
-            change: float_at(strip, SETTINGS_AT + 12),
-            noise: Dbfs(float_at(strip, SETTINGS_AT + 16)),
+            headroom: Db(float_at(strip, at + 2)),
+            largest: Db(float_at(strip, at + 6)),
+            initial: Db(float_at(strip, at + 10)),
+            change: float_at(strip, at + 14),
+            noise: Dbfs(float_at(strip, at + 18)),
         },
     }
 }
@@ -141,10 +215,12 @@ fn figures_at(strip: &[u8], at: usize) -> Figures
 
 // What a whole head is refused with: its samples with 1, its settings or its threshold with 4.
 fn head_refusal(head: Head) -> u32
-    ensures { λ r. ⌜ r ≡ headRefusal one head ⌝ }
+    ensures { λ r. ⌜ r ≡ headRefusal head ⌝ }
 {
+    let version = head.version;
     let settings = head.settings;
-    let threshold = (1 <= head.threshold) & (head.threshold <= LARGEST_THRESHOLD);
+    let most = largest_threshold(version);
+    let threshold = (1 <= head.threshold) & (head.threshold <= most);
     let setting = settings.accepted() & threshold;
     refusal(frames::is_samples(head.samples), setting, true, true)
 }
@@ -163,6 +239,7 @@ fn refused_head(reply: u32) -> HeadRead
     HeadRead {
         reply,
         head: Head {
+            version: Version::One,
             threshold: 0,
             samples: 0,
             settings: Settings::unset(),
@@ -182,7 +259,7 @@ fn refused_record(reply: u32) -> RecordRead
 
 // A whole head, where it is not refused.
 fn judged_head(head: Head) -> HeadRead
-    ensures { λ r. ⌜ r ≡ judgedHead one head ⌝ }
+    ensures { λ r. ⌜ r ≡ judgedHead head ⌝ }
 {
     let reply = head_refusal(head);
     if reply == DONE {
@@ -209,28 +286,35 @@ fn judged_record(figures: Figures) -> RecordRead
 
 // The refusals of a strip's head that come before its numbers: fewer than 3 bytes, the version, the length,
 // a head that is cut.
-fn head_place(strip: &[u8]) -> u32
-    ensures { λ r. ⌜ r ≡ headPlace one (now (strip .entry)) ⌝ }
+fn head_place(version: Version, strip: &[u8]) -> u32
+    ensures { λ r. ⌜ r ≡ headPlace version (now (strip .entry)) ⌝ }
 {
     if THRESHOLD_AT <= strip.len() {
-        let version = strip[VERSION_AT] as u32;
+        let says = strip[VERSION_AT] as u32;
+        let bytes = head_size(version);
         let length = two_at(strip, 0);
-        let whole = floats::pick_u32(HEAD_BYTES <= strip.len(), DONE, CUT);
-        let after_version = floats::pick_u32(length == HEAD_LENGTH, whole, LENGTH);
-        floats::pick_u32(version == VERSION_ONE, after_version, VERSION)
+        let whole = floats::pick_u32(bytes <= strip.len(), DONE, CUT);
+        let after_version = floats::pick_u32(
+            length as usize == bytes - LENGTH_BYTES,
+            whole,
+            LENGTH,
+        );
+        floats::pick_u32(says == number(version), after_version, VERSION)
     } else {
         CUT
     }
 }
 
-// The head that a strip begins with. Refused, in this order, are fewer than 3 bytes with 5, another version
-// with 7, a wrong length with 6, a head that is cut with 5, samples with 1 and settings with 4.
+// The head that a strip begins with, in the version that it says. Refused, in this order, are fewer than 3 bytes
+// with 5, a version that is neither 1 nor 2 with 7, another length than the version's with 6, a head that is cut with
+// 5, samples with 1, and settings or a threshold that the version cannot say with 4.
 pub fn read_head(strip: &[u8]) -> HeadRead
-    ensures { λ r. ⌜ r ≡ readHead one (now (strip .entry)) ⌝ }
+    ensures { λ r. ⌜ r ≡ readHead (versionOf (now (strip .entry))) (now (strip .entry)) ⌝ }
 {
-    let place = head_place(strip);
+    let version = version_of(strip);
+    let place = head_place(version, strip);
     if place == DONE {
-        judged_head(head_at(strip))
+        judged_head(head_at(version, strip))
     } else {
         refused_head(place)
     }
@@ -251,10 +335,10 @@ fn record_place(strip: &[u8], at: usize) -> u32
     }
 }
 
-// The record at a place of a strip; none, where the strip ends there. Refused, in this order, are a single
-// byte with 5, a wrong length with 6, a record that is cut with 5, and a figure with 2.
+// The record at a place of a strip, the same in both versions; none, where the strip ends there. Refused, in this
+// order, are a single byte with 5, a wrong length with 6, a record that is cut with 5, and a figure with 2.
 pub fn read_record(strip: &[u8], at: usize) -> RecordRead
-    ensures { λ r. ⌜ told r ≡ toldOf (readRecord one (now (strip .entry)) at) ⌝ }
+    ensures { λ r. ⌜ told r ≡ toldOf (readRecord One (now (strip .entry)) at) ⌝ }
 {
     if at < strip.len() {
         let place = record_place(strip, at);
@@ -265,6 +349,30 @@ pub fn read_record(strip: &[u8], at: usize) -> RecordRead
         }
     } else {
         refused_record(DONE)
+    }
+}
+
+// Stores the last two bytes of a number at a place.
+fn put_two(n: u32, out: &mut [u8], at: usize)
+    requires { ⌜ at + 2 ≤ length (now out) ⌝ }
+    ensures { λ _. ⌜ now (out .exit) ≡ take at (now (out .entry)) ++ bigEndian 2 n ++ drop (at + 2) (now (out .entry)) ⌝ }
+{
+    out[at] = (n / 256 % 256) as u8;
+    out[at + 1] = (n % 256) as u8;
+}
+
+// Stores a threshold at a place, in as many bytes as the version has for it.
+fn put_threshold(version: Version, threshold: u32, out: &mut [u8], at: usize)
+    requires { ⌜ at + thresholdBytes version ≤ length (now out) ⌝ }
+    ensures { λ _. ⌜ now (out .exit) ≡ take at (now (out .entry)) ++ bigEndian (thresholdBytes version) threshold ++ drop (at + thresholdBytes version) (now (out .entry)) ⌝ }
+{
+    match version {
+        Version::One => {
+            out[at] = (threshold % 256) as u8;
+        }
+        Version::Two => {
+            put_two(threshold, out, at);
+        }
     }
 }
 
@@ -292,17 +400,19 @@ fn put_five(a: f32, b: f32, c: f32, d: f32, e: f32, out: &mut [u8], at: usize)
     put_float(e, out, at + 16);
 }
 
-// The bytes of a head, whatever its numbers.
+// The bytes of a head, whatever its numbers; in version 1 one more byte follows them.
 fn head_bytes(head: Head) -> [u8; HEAD_BYTES]
-    ensures { λ r. ⌜ r ≡ headBytes one head ⌝ }
+    ensures { λ r. ⌜ take (size (headFields (head .version))) r ≡ headBytes head ⌝ }
 {
+    let version = head.version;
     let settings = head.settings;
+    let at = THRESHOLD_AT + threshold_bytes(version);
     let mut bytes = [0u8; HEAD_BYTES];
-    bytes[LENGTH_LOW] = HEAD_LENGTH as u8;
-    bytes[VERSION_AT] = VERSION_ONE as u8;
-    bytes[THRESHOLD_AT] = (head.threshold % 256) as u8;
-    bytes[SAMPLES_AT] = (head.samples / 256 % 256) as u8;
-    bytes[SAMPLES_LOW] = (head.samples % 256) as u8;
+    bytes[LENGTH_LOW] = (at + AFTER_THRESHOLD - LENGTH_BYTES) as u8;
+    bytes[VERSION_AT] = number(version) as u8;
+    put_threshold(version, head.threshold, &mut bytes, THRESHOLD_AT);
+    bytes[at] = (head.samples / 256 % 256) as u8;
+    bytes[at + 1] = (head.samples % 256) as u8;
     put_five(
         settings.headroom.0,
         settings.largest.0,
@@ -310,7 +420,7 @@ fn head_bytes(head: Head) -> [u8; HEAD_BYTES]
         settings.change,
         settings.noise.0,
         &mut bytes,
-        SETTINGS_AT,
+        at + SAMPLES_BYTES,
     );
     bytes
 }
@@ -349,16 +459,18 @@ fn copy(src: &[u8], out: &mut [u8]) -> u32
     floats::pick_u32(room, DONE, ROOM)
 }
 
-// Writes a head to the start of a lent buffer. Refused, in this order, are samples with 1, settings with 4,
-// and a buffer that is too short with 8; nothing is written then.
+// Writes a head to the start of a lent buffer, in its version. Refused, in this order, are samples with 1, settings or
+// a threshold that the version cannot say with 4, and a buffer that is too short with 8; nothing is written then.
 pub fn write_head(head: Head, out: &mut [u8]) -> u32
-    ensures { λ r. ⌜ r ≡ putHead one head (now (out .entry)) .reply ⌝ }
-    ensures { λ _. ⌜ now (out .exit) ≡ putHead one head (now (out .entry)) .out ⌝ }
+    ensures { λ r. ⌜ r ≡ putHead head (now (out .entry)) .reply ⌝ }
+    ensures { λ _. ⌜ now (out .exit) ≡ putHead head (now (out .entry)) .out ⌝ }
 {
     let reply = head_refusal(head);
     if reply == DONE {
+        let version = head.version;
         let bytes = head_bytes(head);
-        copy(&bytes, out)
+        let n = head_size(version);
+        copy(&bytes[..n], out)
     } else {
         reply
     }

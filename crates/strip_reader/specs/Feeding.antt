@@ -4,7 +4,7 @@ use mathlib.Core.List.{List, [], _∷_, _++_}
 use Prim.Native.Nat.{ℕ}
 use lib.Dec.{eqb}
 use Rattle.units.specs.Replies.{done}
-use Rattle.strip_format.specs.Format.{Version, Entry}
+use Rattle.strip_format.specs.Format.{Entry}
 use Rattle.strip_format.specs.Whole.{Strip}
 use Rattle.strip_reader.specs.Reader.{Handed, more, head, entry, end, refused, isMore, fed, finished, fresh}
 use Rattle.strip_reader.specs.declared.Reader.{Reader}
@@ -20,21 +20,21 @@ unfolding isMore
 joins h hs = cond (isMore h) hs (h ∷ hs)
 
 -- byte by byte
-unfoldable pub feed : Version → Reader → List ℕ → Fold
+unfoldable pub feed : Reader → List ℕ → Fold
 unfolding fed joins
-feed v r [] = record { reader = r; out = [] }
-feed v r (byte ∷ bytes) =
-    let f = fed v r byte in
-    let t = feed v (f .reader) bytes in
+feed r [] = record { reader = r; out = [] }
+feed r (byte ∷ bytes) =
+    let f = fed r byte in
+    let t = feed (f .reader) bytes in
     record { reader = t .reader; out = joins (f .got) (t .out) }
 
 -- block by block
-unfoldable pub feedBlocks : Version → Reader → List (List ℕ) → Fold
+unfoldable pub feedBlocks : Reader → List (List ℕ) → Fold
 unfolding feed
-feedBlocks v r [] = record { reader = r; out = [] }
-feedBlocks v r (block ∷ blocks) =
-    let f = feed v r block in
-    let t = feedBlocks v (f .reader) blocks in
+feedBlocks r [] = record { reader = r; out = [] }
+feedBlocks r (block ∷ blocks) =
+    let f = feed r block in
+    let t = feedBlocks (f .reader) blocks in
     record { reader = t .reader; out = f .out ++ t .out }
 
 -- all blocks one after the other
@@ -43,9 +43,9 @@ whole [] = []
 whole (block ∷ blocks) = block ++ whole blocks
 
 -- what a reader hands out of a strip that comes in such blocks
-unfoldable pub handedOut : Version → List (List ℕ) → List Handed
+unfoldable pub handedOut : List (List ℕ) → List Handed
 unfolding feedBlocks finished joins fresh
-handedOut v blocks = let f = feedBlocks v fresh blocks in f .out ++ joins (finished (f .reader)) []
+handedOut blocks = let f = feedBlocks fresh blocks in f .out ++ joins (finished (f .reader)) []
 
 -- ---- what a whole strip has
 -- "no byte, end", or what the next record is refused with

@@ -6,8 +6,10 @@ use lib.Dec.{eqb, leb, ltb}
 use lib.ListN.{take, set, replicate}
 use Rattle.units.specs.Replies.{done, cut, badSetting}
 use Rattle.strip_format.specs.Fields.{size}
-use Rattle.strip_format.specs.Format.{Version, one, headFields, Entry, figures}
+use Rattle.strip_format.specs.Format.{versionOf, headFields, Entry, figures}
 use Rattle.strip_format.specs.Calls.{Read, readHead, readRecord}
+use Rattle.strip_format.specs.declared.Version.{Version}
+use Rattle.strip_format.specs.declared.Version.the-variants.{One, Two}
 use Rattle.strip_format.specs.declared.Head.{Head}
 use Rattle.strip_format.specs.declared.HeadRead.{HeadRead}
 use Rattle.strip_reader.specs.declared.Reader.{Reader}
@@ -40,9 +42,9 @@ isMore end = false
 isMore (refused reply) = false
 
 -- ---- the reader
--- so many bytes are held at most: those of a head
+-- so many bytes are held at most: those of the longest head
 abbrev pub room : ℕ
-room = size (headFields one)
+room = size (headFields Two)
 
 -- what it waits for: the rest of the head, the rest of a record, or nothing, after a refusal
 abbrev pub atHead : ℕ
@@ -54,8 +56,9 @@ atRecords = 1
 abbrev pub over : ℕ
 over = 2
 
+-- before the head the version is not known: 1 stands there
 unfoldable pub fresh : Reader
-fresh = record { held = replicate room 0; count = 0; stage = atHead }
+fresh = record { held = replicate room 0; count = 0; stage = atHead; version = One }
 
 -- there is room for one more byte, and what it waits for is one of the three
 unfoldable pub passes : Reader → Bool
@@ -71,34 +74,38 @@ unfoldable pub stepOf : Step → Fed
 unfolding handed
 stepOf s = record { reader = s .reader; got = handed (s .got) }
 
--- a head whose bytes are not all there is waited for; one that is accepted comes out; one that is refused ends the strip
+-- a head whose bytes are not all there is waited for; one that is accepted comes out, and its version stands from there on; one that is refused ends the
+-- strip
 unfoldable pub headFed : List ℕ → ℕ → HeadRead → Fed
 headFed held count read =
-    cond (eqb (read .reply) cut) (record { reader = record { held = held; count = count; stage = atHead }; got = more })
-    (cond (eqb (read .reply) done) (record { reader = record { held = held; count = 0; stage = atRecords }; got = head (read .head) })
-    (record { reader = record { held = held; count = 0; stage = over }; got = refused (read .reply) }))
+    let version = read .head .version in
+    cond (eqb (read .reply) cut) (record { reader = record { held = held; count = count; stage = atHead; version = version }; got = more })
+    (cond (eqb (read .reply) done) (record { reader = record { held = held; count = 0; stage = atRecords; version = version }; got = head (read .head) })
+    (record { reader = record { held = held; count = 0; stage = over; version = version }; got = refused (read .reply) }))
 
 -- a record that was found comes out; where there is none it is refused
-unfoldable pub recordFound : List ℕ → ℕ → List Entry → Fed
-recordFound held reply [] = record { reader = record { held = held; count = 0; stage = over }; got = refused reply }
-recordFound held reply (e ∷ es) = record { reader = record { held = held; count = 0; stage = atRecords }; got = entry e }
+unfoldable pub recordFound : Version → List ℕ → ℕ → List Entry → Fed
+recordFound version held reply [] = record { reader = record { held = held; count = 0; stage = over; version = version }; got = refused reply }
+recordFound version held reply (e ∷ es) = record { reader = record { held = held; count = 0; stage = atRecords; version = version }; got = entry e }
 
 -- the same of a record as of a head
-unfoldable pub recordFed : List ℕ → ℕ → Read → Fed
+unfoldable pub recordFed : Version → List ℕ → ℕ → Read → Fed
 unfolding recordFound
-recordFed held count read =
-    cond (eqb (read .reply) cut) (record { reader = record { held = held; count = count; stage = atRecords }; got = more }) (recordFound held (read .reply) (read .found))
+recordFed version held count read =
+    cond (eqb (read .reply) cut) (record { reader = record { held = held; count = count; stage = atRecords; version = version }; got = more })
+    (recordFound version held (read .reply) (read .found))
 
--- the byte is held behind the others, and what they are together is read
-unfoldable pub fed : Version → Reader → ℕ → Fed
-unfolding passes headFed recordFed readHead readRecord
-fed v r byte =
+-- the byte is held behind the others, and what they are together is read: a head in the version that it says, a record in the head's
+unfoldable pub fed : Reader → ℕ → Fed
+unfolding passes headFed recordFed readHead readRecord versionOf
+fed r byte =
     let held = set (r .held) (r .count) byte in
     let bytes = take (r .count + 1) held in
     cond (passes r)
     (cond (eqb (r .stage) over)
     (record { reader = r; got = more })
-    (cond (eqb (r .stage) atHead) (headFed held (r .count + 1) (readHead v bytes)) (recordFed held (r .count + 1) (readRecord v bytes 0))))
+    (cond (eqb (r .stage) atHead) (headFed held (r .count + 1) (readHead (versionOf bytes) bytes))
+    (recordFed (r .version) held (r .count + 1) (readRecord (r .version) bytes 0))))
     (record { reader = r; got = refused badSetting })
 
 -- ---- the strip's end: "no byte, end"; "cut 5"
@@ -124,7 +131,7 @@ unfoldable pub before : Fed → Taken → Taken
 unfolding isMore
 before f t = cond (isMore (f .got)) (record { reader = t .reader; used = suc (t .used); got = t .got }) (record { reader = f .reader; used = 1; got = f .got })
 
-unfoldable pub next : Version → Reader → List ℕ → Taken
+unfoldable pub next : Reader → List ℕ → Taken
 unfolding fed before
-next v r [] = record { reader = r; used = 0; got = more }
-next v r (byte ∷ bytes) = before (fed v r byte) (next v (fed v r byte .reader) bytes)
+next r [] = record { reader = r; used = 0; got = more }
+next r (byte ∷ bytes) = before (fed r byte) (next (fed r byte .reader) bytes)

@@ -2,7 +2,6 @@
 // the records come out as soon as they are whole.
 
 ghost use mathlib.Core.Path.{_≡_};
-ghost use Rattle.strip_format.specs.Format.{one};
 ghost use Rattle.strip_format.specs.Calls.{readOf};
 ghost use Rattle.strip_reader.specs.Reader.{fresh, passes, handed, isMore, stepOf, headFed, recordFed, fed, finished, nextOf, next};
 ghost use lib.ListN.{length, drop};
@@ -11,6 +10,7 @@ use strip_format::HEAD_BYTES;
 use strip_format::Head;
 use strip_format::HeadRead;
 use strip_format::RecordRead;
+use strip_format::Version;
 use strip_format::read_head;
 use strip_format::read_record;
 use units::figures::Figures;
@@ -25,11 +25,13 @@ const RECORDS: u32 = 1;
 
 const OVER: u32 = 2;
 
-// The bytes of a head or a record that is not whole yet, how many they are, and what the reader waits for.
+// The bytes of a head or a record that is not whole yet, how many they are, what the reader waits for, and the
+// version of the strip: 1 as long as the head is not known.
 pub struct Reader {
     pub held: [u8; HEAD_BYTES],
     pub count: usize,
     pub stage: u32,
+    pub version: Version,
 }
 
 // What comes out: nothing yet; the head; the figures of a record; the end, after the last whole record; or the reply
@@ -72,23 +74,26 @@ pub fn is_more(got: Got) -> bool
 fn with_head(held: [u8; HEAD_BYTES], count: usize, read: HeadRead) -> Step
     ensures { λ r. ⌜ stepOf r ≡ headFed held count read ⌝ }
 {
+    let head = read.head;
+    let version = head.version;
     if read.reply == CUT {
         Step {
             reader: Reader {
                 held,
                 count,
                 stage: HEAD,
+                version,
             },
             got: Got::More,
         }
     } else {
         if read.reply == DONE {
-            let head = read.head;
             Step {
                 reader: Reader {
                     held,
                     count: 0,
                     stage: RECORDS,
+                    version,
                 },
                 got: Got::Head(head),
             }
@@ -98,6 +103,7 @@ fn with_head(held: [u8; HEAD_BYTES], count: usize, read: HeadRead) -> Step
                     held,
                     count: 0,
                     stage: OVER,
+                    version,
                 },
                 got: Got::Refused(read.reply),
             }
@@ -106,8 +112,8 @@ fn with_head(held: [u8; HEAD_BYTES], count: usize, read: HeadRead) -> Step
 }
 
 // The same of a record.
-fn with_record(held: [u8; HEAD_BYTES], count: usize, read: RecordRead) -> Step
-    ensures { λ r. ⌜ stepOf r ≡ recordFed held count (readOf read) ⌝ }
+fn with_record(version: Version, held: [u8; HEAD_BYTES], count: usize, read: RecordRead) -> Step
+    ensures { λ r. ⌜ stepOf r ≡ recordFed version held count (readOf read) ⌝ }
 {
     let found = read.found;
     if read.reply == CUT {
@@ -116,6 +122,7 @@ fn with_record(held: [u8; HEAD_BYTES], count: usize, read: RecordRead) -> Step
                 held,
                 count,
                 stage: RECORDS,
+                version,
             },
             got: Got::More,
         }
@@ -126,6 +133,7 @@ fn with_record(held: [u8; HEAD_BYTES], count: usize, read: RecordRead) -> Step
                     held,
                     count: 0,
                     stage: OVER,
+                    version,
                 },
                 got: Got::Refused(read.reply),
             },
@@ -134,6 +142,7 @@ fn with_record(held: [u8; HEAD_BYTES], count: usize, read: RecordRead) -> Step
                     held,
                     count: 0,
                     stage: RECORDS,
+                    version,
                 },
                 got: Got::Record(figures),
             },
@@ -150,6 +159,7 @@ impl Reader {
             held: [0; HEAD_BYTES],
             count: 0,
             stage: HEAD,
+            version: Version::One,
         }
     }
 
@@ -163,9 +173,10 @@ impl Reader {
     // Takes the next byte of the strip. A reader that fails its test is refused with 4 and stays as it is; after a
     // refusal of the strip nothing comes out any more.
     pub fn take(self, byte: u8) -> Step
-        ensures { λ r. ⌜ stepOf r ≡ fed one self byte ⌝ }
+        ensures { λ r. ⌜ stepOf r ≡ fed self byte ⌝ }
     {
         let stage = self.stage;
+        let version = self.version;
         let at = self.count;
         if self.passes() {
             if stage == OVER {
@@ -182,7 +193,7 @@ impl Reader {
                     with_head(held, n, read)
                 } else {
                     let read = read_record(&held[..n], 0);
-                    with_record(held, n, read)
+                    with_record(version, held, n, read)
                 }
             }
         } else {
@@ -216,7 +227,7 @@ impl Reader {
 
     // Takes the bytes of a block from a place on, until something comes out or the block is used up.
     pub fn next(self, block: &[u8], at: usize) -> Next
-        ensures { λ r. ⌜ nextOf r ≡ next one self (drop at (now (block .entry))) ⌝ }
+        ensures { λ r. ⌜ nextOf r ≡ next self (drop at (now (block .entry))) ⌝ }
     {
         let mut reader = self;
         let mut got = Got::More;

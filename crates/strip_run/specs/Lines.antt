@@ -13,7 +13,7 @@ use Rattle.chain.specs.declared.Made.{Made}
 use Rattle.chain.specs.declared.Published.{Published}
 use Rattle.chain.specs.declared.Reading.{Reading}
 use Rattle.chain.specs.declared.SamplesRead.{SamplesRead}
-use Rattle.strip_format.specs.Format.{Version, Entry, figures, gap}
+use Rattle.strip_format.specs.Format.{versionOf, Entry, figures, gap}
 use Rattle.strip_format.specs.Whole.{readStrip}
 use Rattle.strip_format.specs.declared.Head.{Head}
 use Rattle.strip_lines.specs.Lines.{recordLine, refusalLine}
@@ -120,12 +120,12 @@ unfolding told
 deskOf d [] = d
 deskOf d (h ∷ hs) = deskOf (told d h .desk) hs
 
--- "The program `strip` reads one .., runs a new chain over silent one-channel frames, and prints for each record ..": the lines of a whole strip
-unfoldable pub lines : Version → List ℕ → List ℕ
-unfolding linesOf atStart handedBy readStrip
-lines v strip = linesOf atStart (handedBy (readStrip v strip))
+-- "The program `strip` reads one .., runs a new chain over silent one-channel frames, and prints for each record ..": the lines of a whole strip, in the version that it says
+unfoldable pub lines : List ℕ → List ℕ
+unfolding linesOf atStart handedBy readStrip versionOf
+lines strip = linesOf atStart (handedBy (readStrip (versionOf strip) strip))
 
 -- and its reply: 0 where it is read to its end, and otherwise the number of the refusal that ends it
-unfoldable pub replyOf : Version → List ℕ → ℕ
-unfolding deskOf atStart handedBy readStrip
-replyOf v strip = deskOf atStart (handedBy (readStrip v strip)) .reply
+unfoldable pub replyOf : List ℕ → ℕ
+unfolding deskOf atStart handedBy readStrip versionOf
+replyOf strip = deskOf atStart (handedBy (readStrip (versionOf strip) strip)) .reply

@@ -5,7 +5,6 @@ use Prim.Native.Nat.{ℕ, _/_}
 use lib.Dec.{ltb}
 use lib.ListN.{length, drop}
 use Rattle.units.specs.Replies.{done, noRoom}
-use Rattle.strip_format.specs.Format.{Version}
 use Rattle.strip_lines.specs.Lines.{longest}
 use Rattle.strip_reader.specs.Reader.{fed, finished, fresh}
 use Rattle.strip_run.specs.Lines.{Shown, atStart, told}
@@ -27,13 +26,13 @@ pub record Ran : Type 0 where
   pub lines : List ℕ
 
 -- byte by byte: what comes out of the reader is told to the desk
-unfoldable pub ran : Version → Run → List ℕ → Ran
+unfoldable pub ran : Run → List ℕ → Ran
 unfolding fed told
-ran v r [] = record { run = r; lines = [] }
-ran v r (byte ∷ bytes) =
-    let f = fed v (r .reader) byte in
+ran r [] = record { run = r; lines = [] }
+ran r (byte ∷ bytes) =
+    let f = fed (r .reader) byte in
     let t = told (r .desk) (f .got) in
-    let rest = ran v (record { reader = f .reader; desk = t .desk }) bytes in
+    let rest = ran (record { reader = f .reader; desk = t .desk }) bytes in
     record { run = rest .run; lines = t .line ++ rest .lines }
 
 -- the strip's end, after which the run does not go on
@@ -44,34 +43,34 @@ ended r =
     record { run = record { reader = r .reader; desk = record { chain = t .desk .chain; number = t .desk .number; more = false; reply = t .desk .reply } }; lines = t .line }
 
 -- a block; an empty one is the strip's end
-unfoldable pub taken : Version → Run → List ℕ → Ran
+unfoldable pub taken : Run → List ℕ → Ran
 unfolding ran ended
-taken v r [] = ended r
-taken v r (byte ∷ bytes) = ran v r (byte ∷ bytes)
+taken r [] = ended r
+taken r (byte ∷ bytes) = ran r (byte ∷ bytes)
 
 -- what is printed of a strip that comes in such blocks and then ends
-unfoldable pub takenBlocks : Version → Run → List (List ℕ) → List ℕ
+unfoldable pub takenBlocks : Run → List (List ℕ) → List ℕ
 unfolding taken
-takenBlocks v r [] = taken v r [] .lines
-takenBlocks v r (block ∷ blocks) = taken v r block .lines ++ takenBlocks v (taken v r block .run) blocks
+takenBlocks r [] = taken r [] .lines
+takenBlocks r (block ∷ blocks) = taken r block .lines ++ takenBlocks (taken r block .run) blocks
 
 -- and the run after them
-unfoldable pub runAfter : Version → Run → List (List ℕ) → Run
+unfoldable pub runAfter : Run → List (List ℕ) → Run
 unfolding taken
-runAfter v r [] = taken v r [] .run
-runAfter v r (block ∷ blocks) = runAfter v (taken v r block .run) blocks
+runAfter r [] = taken r [] .run
+runAfter r (block ∷ blocks) = runAfter (taken r block .run) blocks
 
 -- ---- what a call answers: a buffer that cannot hold a line for each byte of the block and one more is refused with 8, and nothing changes
-unfoldable pub takenOf : Version → Run → List ℕ → ℕ → Taken
+unfoldable pub takenOf : Run → List ℕ → ℕ → Taken
 unfolding taken
-takenOf v r block space =
-    cond (ltb (length block) (space / longest)) (record { reply = done; run = taken v r block .run; length = length (taken v r block .lines) })
+takenOf r block space =
+    cond (ltb (length block) (space / longest)) (record { reply = done; run = taken r block .run; length = length (taken r block .lines) })
     (record { reply = noRoom; run = r; length = 0 })
 
-unfoldable pub outOf : Version → Run → List ℕ → List ℕ → List ℕ
+unfoldable pub outOf : Run → List ℕ → List ℕ → List ℕ
 unfolding taken
-outOf v r block out =
-    cond (ltb (length block) (length out / longest)) (taken v r block .lines ++ drop (length (taken v r block .lines)) out) out
+outOf r block out =
+    cond (ltb (length block) (length out / longest)) (taken r block .lines ++ drop (length (taken r block .lines)) out) out
 
 -- a line that was printed to the start of a buffer that has room for it
 abbrev pub lineOf : Shown → Line

@@ -5,7 +5,6 @@ ghost use Prim.Native.Nat.{_/_, _<_, _≤_};
 ghost use lib.ListN.{length, take, drop};
 ghost use mathlib.Core.List.{_++_};
 ghost use Rattle.chain.specs.Calls.{told, called};
-ghost use Rattle.strip_format.specs.Format.{one};
 ghost use Rattle.strip_lines.specs.Lines.{longest};
 ghost use Rattle.strip_reader.specs.Reader.{handed};
 ghost use Rattle.strip_run.specs.Lines.{atStart, refusedAt, begun, silence, published, answered, framed, shown};
@@ -231,8 +230,8 @@ fn tell(desk: Desk, got: Got, out: &mut [u8]) -> Line
 // Takes the bytes of a block, one after the other. There is room for a line for each of them.
 fn take_bytes(run: Run, block: &[u8], out: &mut [u8]) -> Taken
     requires { ⌜ length (now block) < length (now out) / longest ⌝ }
-    ensures { λ r. ⌜ r ≡ record { reply = 0; run = ran one run (now (block .entry)) .run; length = length (ran one run (now (block .entry)) .lines) } ⌝ }
-    ensures { λ _. ⌜ now (out .exit) ≡ ran one run (now (block .entry)) .lines ++ drop (length (ran one run (now (block .entry)) .lines)) (now (out .entry)) ⌝ }
+    ensures { λ r. ⌜ r ≡ record { reply = 0; run = ran run (now (block .entry)) .run; length = length (ran run (now (block .entry)) .lines) } ⌝ }
+    ensures { λ _. ⌜ now (out .exit) ≡ ran run (now (block .entry)) .lines ++ drop (length (ran run (now (block .entry)) .lines)) (now (out .entry)) ⌝ }
 {
     let mut reader = run.reader;
     let mut desk = run.desk;
@@ -318,8 +317,8 @@ impl Run {
     // lent buffer; an empty block is the strip's end. Where the buffer cannot hold LONGEST bytes for each byte of the
     // block and once more, it is refused with 8, and nothing changes.
     pub fn take(self, block: &[u8], out: &mut [u8]) -> Taken
-        ensures { λ r. ⌜ r ≡ takenOf one self (now (block .entry)) (length (now (out .entry))) ⌝ }
-        ensures { λ _. ⌜ now (out .exit) ≡ outOf one self (now (block .entry)) (now (out .entry)) ⌝ }
+        ensures { λ r. ⌜ r ≡ takenOf self (now (block .entry)) (length (now (out .entry))) ⌝ }
+        ensures { λ _. ⌜ now (out .exit) ≡ outOf self (now (block .entry)) (now (out .entry)) ⌝ }
     {
         let space = out.len();
         if block.len() < space / LONGEST {

@@ -7,7 +7,6 @@ use Prim.Native.Nat.{ℕ, suc, _+_, _≤_}
 use native.Mathlib.Omega.{arith}
 use lib.ListN.{length, take, drop}
 use Rattle.chain.specs.Laws.Frames.{either}
-use Rattle.strip_format.specs.Format.{Version, one}
 use Rattle.strip_reader.specs.Reader.{handed, isMore, Fed, Taken, nextOf, fed, before, next}
 use Rattle.strip_reader.specs.declared.Reader.{Reader}
 use Rattle.strip_reader.specs.declared.Next.{Next}
@@ -19,18 +18,18 @@ before-used : (f : Fed) (t : Taken) (n : ℕ) → t .used ≤ n → before f t .
 unfolding before
 before-used f t n h = either (λ (x : Taken). x .used ≤ suc n) (isMore (f .got)) (omega arith) (omega arith)
 
-used-of : (v : Version) (r : Reader) (bytes : List ℕ) → next v r bytes .used ≤ length bytes
+used-of : (r : Reader) (bytes : List ℕ) → next r bytes .used ≤ length bytes
 unfolding next
-used-of v r [] = omega arith
-used-of v r (b ∷ bs) = before-used (fed v r b) (next v (fed v r b .reader) bs) (length bs) (used-of v (fed v r b .reader) bs)
+used-of r [] = omega arith
+used-of r (b ∷ bs) = before-used (fed r b) (next (fed r b .reader) bs) (length bs) (used-of (fed r b .reader) bs)
 
-pub used-within : (r : Reader) (bytes : List ℕ) (n : Next) → nextOf n ≡ next one r bytes → n .used ≤ length bytes
+pub used-within : (r : Reader) (bytes : List ℕ) (n : Next) → nextOf n ≡ next r bytes → n .used ≤ length bytes
 unfolding nextOf
-used-within r bytes n h = rw (ap (λ (t : Taken). t .used) h) (used-of one r bytes)
+used-within r bytes n h = rw (ap (λ (t : Taken). t .used) h) (used-of r bytes)
 
 -- ---- what a reader answers on the bytes that are filled is what is drawn
 pub drawn-is : (source : Source) (block : List ℕ) (m : ℕ) (n : Next) (more : Bool)
-    → take m block ≡ take (source .n) block → nextOf n ≡ next one (source .reader) (drop (source .at) (take m block)) → more ≡ isMore (handed (n .got))
+    → take m block ≡ take (source .n) block → nextOf n ≡ next (source .reader) (drop (source .at) (take m block)) → more ≡ isMore (handed (n .got))
     → drawnOf (record { source = record { reader = n .reader; at = source .at + n .used; n = source .n }; got = n .got; more = more }) ≡ drawnFrom source block
 unfolding drawnOf drawnFrom nextOf
 drawn-is source block m n more e h g = rw (← e, ← h, g)

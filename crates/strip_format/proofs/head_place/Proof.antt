@@ -1,25 +1,29 @@
 -- `strip_format::head_place` meets its contract: its three choices are the definition's. Assumes nothing.
-use mathlib.Core.Path.{_≡_}
+use mathlib.Core.Path.{_≡_, _∙_}
 use mathlib.Core.Bool.{cond}
 use mathlib.Core.List.{List}
-use Prim.Native.Nat.{ℕ, _≤_}
-use native.Mathlib.Nat.{zero-add}
+use Prim.Native.Nat.{ℕ, _-_, _≤_}
 use native.Mathlib.Omega.{arith}
 use borrow.Author.Tests.{le-leb, lt-leb}
 use lib.Dec.{eqb, leb}
 use lib.ListN.{length, getD}
 use Rattle.units.specs.Replies.{done, cut, badLength, badVersion}
 use Rattle.strip_format.specs.Fields.{size, numberAt}
-use Rattle.strip_format.specs.Format.{one, headFields, headLength}
+use Rattle.strip_format.specs.Format.{numberOf, headFields}
 use Rattle.strip_format.specs.Steps.{headPlace}
+use Rattle.strip_format.specs.Laws.Steps.{third-byte}
+use Rattle.strip_format.specs.declared.Version.{Version}
 use Rattle.strip_format.proofs.head_place.Statement.{statement}
 use Rattle.strip_format.proofs.head_place.Tie as tie
 
-shared-slice-read-version : tie.Need-shared-slice-read-version
-shared-slice-read-version c = omega arith
+shared-slice-read-says : tie.Need-shared-slice-read-says
+shared-slice-read-says c = omega arith
 
-cast-version : tie.Need-cast-version
-cast-version c = omega (arith, c .shared-slice-known2 .given 2)
+cast-says : tie.Need-cast-says
+cast-says c = omega (arith, c .shared-slice-known2 .given 2)
+
+head-size-requires : tie.Need-head-size-requires
+head-size-requires c κs = tt
 
 two-at-requires : tie.Need-two-at-requires
 two-at-requires c κs = omega arith
@@ -27,29 +31,41 @@ two-at-requires c κs = omega arith
 pick-u32-requires : tie.Need-pick-u32-requires
 pick-u32-requires c κs = tt
 
+cast-pick-u32 : tie.Need-cast-pick-u32
+cast-pick-u32 c = omega arith
+
+sub-pick-u32 : tie.Need-sub-pick-u32
+sub-pick-u32 c = omega arith
+
 pick-u32-requires-2 : tie.Need-pick-u32-requires-2
 pick-u32-requires-2 c κs = tt
+
+number-requires : tie.Need-number-requires
+number-requires c κs = tt
 
 pick-u32-requires-3 : tie.Need-pick-u32-requires-3
 pick-u32-requires-3 c κs = tt
 
-third-byte : (strip : List ℕ) → numberAt strip 2 1 ≡ getD strip 2 0
-unfolding numberAt
-third-byte strip = rw zero-add
-
-place : (strip : List ℕ) (length′ whole after r : ℕ) → 3 ≤ length strip
-    → length′ ≡ numberAt strip 0 2 → whole ≡ cond (leb (size (headFields one)) (length strip)) done cut → after ≡ cond (eqb length′ (headLength one)) whole badLength
-    → r ≡ cond (eqb (getD strip 2 0) 1) after badVersion → r ≡ headPlace one strip
+place : (v : Version) (strip : List ℕ) (bytes length′ whole after number r : ℕ) → 3 ≤ length strip
+    → bytes ≡ size (headFields v) → length′ ≡ numberAt strip 0 2 → whole ≡ cond (leb bytes (length strip)) done cut
+    → after ≡ cond (eqb length′ (bytes - 2)) whole badLength → number ≡ numberOf v → r ≡ cond (eqb (getD strip 2 0) number) after badVersion
+    → r ≡ headPlace v strip
 unfolding headPlace
-place strip length′ whole after r h p q s t = rw (le-leb 3 (length strip) h, third-byte strip, ← p, ← q, ← s) t
+place v strip bytes length′ whole after number r h b p q s n t =
+    t ∙ rw (s, q, n, p, b, le-leb 3 (length strip) h, third-byte strip)
 
 returns : tie.Need-returns
 returns c =
-    let at-two = c .before .before .before in
-    let start = at-two .before .before .before .before in
-    place (start .args .strip .now) (at-two .two-at .result) (c .before .before .pick-u32 .result) (c .before .pick-u322 .result)
-    (c .pick-u323 .result) (at-two .before .before .if1 .taken) (at-two .two-at .ensures .0) (c .before .before .pick-u32 .ensures)
-    (c .before .pick-u322 .ensures) (c .pick-u323 .ensures)
+    let at-number = c .before in
+    let at-after = at-number .before in
+    let at-whole = at-after .before in
+    let at-two = at-whole .before in
+    let at-size = at-two .before in
+    let taken = at-size .before .before in
+    let start = taken .before .before in
+    place (start .args .version) (start .args .strip .now) (at-size .head-size .result) (at-two .two-at .result) (at-whole .pick-u32 .result)
+    (at-after .pick-u322 .result) (at-number .number .result) (c .pick-u323 .result) (taken .if1 .taken) (at-size .head-size .ensures .0)
+    (at-two .two-at .ensures .0) (at-whole .pick-u32 .ensures) (at-after .pick-u322 .ensures) (at-number .number .ensures .0) (c .pick-u323 .ensures)
 
 returns-2 : tie.Need-returns-2
 unfolding headPlace
@@ -59,11 +75,15 @@ pub head-place-spec : {M : Type 1} → statement M
 head-place-spec =
     tie.close
     (tie.spec
-    shared-slice-read-version
-    cast-version
+    shared-slice-read-says
+    cast-says
+    head-size-requires
     two-at-requires
     pick-u32-requires
+    cast-pick-u32
+    sub-pick-u32
     pick-u32-requires-2
+    number-requires
     pick-u32-requires-3
     returns
     returns-2)

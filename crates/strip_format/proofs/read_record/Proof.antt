@@ -9,10 +9,11 @@ use lib.ListN.{length}
 use Rattle.units.specs.Replies.{done}
 use Rattle.units.specs.declared.figures.Figures.{Figures}
 use Rattle.strip_format.specs.Fields.{size, fieldsAt}
-use Rattle.strip_format.specs.Format.{one, recordFields, figuresOf}
+use Rattle.strip_format.specs.Format.{recordFields, figuresOf}
 use Rattle.strip_format.specs.Calls.{Told, toldOf, judgedRecord, refusedRecord, readRecord}
 use Rattle.strip_format.specs.Steps.{recordPlace}
 use Rattle.strip_format.specs.Laws.Steps.{record-by-place, record-there}
+use Rattle.strip_format.specs.declared.Version.the-variants.{One}
 use Rattle.strip_format.proofs.read_record.Statement.{statement}
 use Rattle.strip_format.proofs.read_record.Tie as tie
 
@@ -35,21 +36,21 @@ refused-record-requires-2 : tie.Need-refused-record-requires-2
 refused-record-requires-2 c κs = tt
 
 module _ (strip : List ℕ) (at : ℕ) where
-  by-place : readRecord one strip at
+  by-place : readRecord One strip at
       ≡ cond (ltb at (length strip))
       (cond (eqb (recordPlace strip at) done) (judgedRecord (figuresOf (fieldsAt recordFields strip at))) (refusedRecord (recordPlace strip at)))
       (refusedRecord done)
-  by-place = record-by-place one strip at refl
+  by-place = record-by-place One strip at refl
 
   whole : {r : Told} (place : ℕ) (figures : Figures) → at < length strip → place ≡ recordPlace strip at → place ≡ done
-      → figures ≡ figuresOf (fieldsAt recordFields strip at) → r ≡ toldOf (judgedRecord figures) → r ≡ toldOf (readRecord one strip at)
+      → figures ≡ figuresOf (fieldsAt recordFields strip at) → r ≡ toldOf (judgedRecord figures) → r ≡ toldOf (readRecord One strip at)
   whole place figures l p d h k =
       k ∙ ap (λ (f : Figures). toldOf (judgedRecord f)) h ∙ ap toldOf (sym (by-place ∙ rw (lt-ltb at (length strip) l, ← p, d)))
 
-  refused : {r : Told} (place : ℕ) → at < length strip → place ≡ recordPlace strip at → (place ≡ done → ⊥) → r ≡ toldOf (refusedRecord place) → r ≡ toldOf (readRecord one strip at)
+  refused : {r : Told} (place : ℕ) → at < length strip → place ≡ recordPlace strip at → (place ≡ done → ⊥) → r ≡ toldOf (refusedRecord place) → r ≡ toldOf (readRecord One strip at)
   refused place l p n k = k ∙ ap toldOf (sym (by-place ∙ rw (lt-ltb at (length strip) l, ← p, ne-eqb place done n)))
 
-  over : {r : Told} → length strip ≤ at → r ≡ toldOf (refusedRecord done) → r ≡ toldOf (readRecord one strip at)
+  over : {r : Told} → length strip ≤ at → r ≡ toldOf (refusedRecord done) → r ≡ toldOf (readRecord One strip at)
   over l k = k ∙ ap toldOf (sym (by-place ∙ rw (le-ltb at (length strip) l)))
 
 returns : tie.Need-returns

@@ -5,9 +5,10 @@ use mathlib.Core.List.{List, [], _∷_}
 use Prim.Native.Nat.{ℕ}
 use native.Mathlib.Omega.{arith}
 use Rattle.units.specs.declared.figures.Figures.{Figures}
-use Rattle.strip_format.specs.Format.{Version, Entry, figures, gap}
+use Rattle.strip_format.specs.Format.{Entry, figures, gap}
 use Rattle.strip_format.specs.Calls.{Read, refusedRecord, ended, found, readRecord, Said, saidOf, said, entriesFound, readOf, Told, told, toldOf}
 use Rattle.strip_format.specs.Laws.Whole.{Seen, here, over, refused, seen}
+use Rattle.strip_format.specs.declared.Version.{Version}
 use Rattle.strip_format.specs.declared.Found.{Found}
 use Rattle.strip_format.specs.declared.Found.the-variants.{None, Record}
 use Rattle.strip_format.specs.declared.RecordRead.{RecordRead}

@@ -12,9 +12,10 @@ use Rattle.lists.specs.Tests.{each-of}
 use Rattle.units.specs.Replies.{done, cut, badLength}
 use Rattle.units.specs.declared.figures.Figures.{Figures}
 use Rattle.strip_format.specs.Fields.{size, numberAt, written, fieldsAt}
-use Rattle.strip_format.specs.Format.{Version, gapFields, gapLength, recordFields, recordLength, figuresOf, figures, gap}
+use Rattle.strip_format.specs.Format.{hasGaps, gapFields, gapLength, recordFields, recordLength, figuresOf, figures, gap}
 use Rattle.strip_format.specs.Calls.{Read, recordRefusal, refusedRecord, ended, found, judgedRecord, isGap, readRecord, saidOf}
 use Rattle.strip_format.specs.Laws.Fields.{Bytes, bytes-back}
+use Rattle.strip_format.specs.declared.Version.{Version}
 
 number : Read → ℕ
 number r = saidOf (r .found) .number
@@ -56,12 +57,12 @@ module _ (v : Version) (strip : List ℕ) (at : ℕ) (e : readRecord v strip at 
   gap-says = tests .1
 
   -- in a version that has gaps.
-  pub gap-had : v .gaps ≡ true
-  gap-had = each-of (v .gaps ∷ _ ∷ []) gap-says 0
+  pub gap-had : hasGaps v ≡ true
+  gap-had = each-of (hasGaps v ∷ _ ∷ []) gap-says 0
 
   -- It rewrites to the same bytes.
   pub gap-rewrites : Bytes strip → written gapFields (gapLength ∷ []) ≡ take (size gapFields) (drop at strip)
   unfolding fieldsAt
   gap-rewrites b =
-      ap (λ (n : ℕ). written gapFields (n ∷ [])) (sym (eqb-true (numberAt strip at 2) gapLength (each-of (v .gaps ∷ eqb (numberAt strip at 2) gapLength ∷ []) gap-says 1)))
+      ap (λ (n : ℕ). written gapFields (n ∷ [])) (sym (eqb-true (numberAt strip at 2) gapLength (each-of (hasGaps v ∷ eqb (numberAt strip at 2) gapLength ∷ []) gap-says 1)))
       ∙ bytes-back gapFields strip at b gap-whole

@@ -6,8 +6,8 @@ use Prim.Native.Nat.{ℕ}
 use native.Mathlib.Omega.{arith}
 use Rattle.lists.specs.Promise.{one-outcome}
 use Rattle.units.specs.declared.figures.Figures.{Figures}
-use Rattle.strip_format.specs.Format.{Version}
 use Rattle.strip_format.specs.Calls.{readHead, readRecord, toldOf, putHead, putRecord, Said, said}
+use Rattle.strip_format.specs.declared.Version.{Version}
 use Rattle.strip_format.specs.declared.Head.{Head}
 use Rattle.strip_format.specs.declared.Found.{Found}
 use Rattle.strip_format.specs.declared.Found.the-variants.{None, Record}
@@ -18,7 +18,7 @@ Once {A} d = (r s : A) → r ≡ d → s ≡ d → r ≡ s
 
 -- Any two outcomes of reading and writing heads and records that meet the promise are the same: reply, what was read, and every byte.
 pub one-answer : (v : Version) (h : Head) (f : Figures) (strip out : List ℕ) (at : ℕ)
-    → Once (readHead v strip) × Once (toldOf (readRecord v strip at)) × Once (putHead v h out) × Once (putRecord f out)
+    → Once (readHead v strip) × Once (toldOf (readRecord v strip at)) × Once (putHead h out) × Once (putRecord f out)
 one-answer v h f strip out at = (one-outcome, one-outcome, one-outcome, one-outcome)
 
 -- Nothing is lost where a place of a strip is told by the paper's number and values.

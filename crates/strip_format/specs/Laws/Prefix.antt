@@ -15,13 +15,14 @@ use Rattle.units.specs.Settings as Settings
 use Rattle.units.specs.declared.figures.Figures.{Figures}
 use Rattle.frames.specs.Shape.{isSamples}
 use Rattle.strip_format.specs.Fields.{size, numberAt, fieldsAt}
-use Rattle.strip_format.specs.Format.{Version, headFields, headLength, headOf, recordFields, recordLength, figuresOf, Entry, figures, gap, entrySize}
+use Rattle.strip_format.specs.Format.{numberOf, versionOf, headFields, headLength, headOf, recordFields, recordLength, figuresOf, Entry, figures, gap, entrySize}
 use Rattle.strip_format.specs.Calls.{Read, isThreshold, headRefusal, recordRefusal, refusedHead, judgedHead, readHead, refusedRecord, ended, found, judgedRecord, isGap, readRecord, saidOf}
 use Rattle.strip_format.specs.Laws.Steps.{HeadThere, RecordThere}
 use Rattle.strip_format.specs.Laws.Heads.{head-stood}
 use Rattle.strip_format.specs.Laws.Records.{stood}
 use Rattle.strip_format.specs.Laws.Gaps.{gap-whole, gap-says}
-use Rattle.strip_format.specs.Laws.Refusals.{head-wrong-length, head-other-version, head-judged, record-none, record-gap, record-wrong-length, record-judged, judged-head-reply, judged-record-reply}
+use Rattle.strip_format.specs.Laws.Refusals.{head-too-short, head-wrong-length, head-other-version, head-judged, record-none, record-gap, record-wrong-length, record-judged, judged-head-reply, judged-record-reply}
+use Rattle.strip_format.specs.declared.Version.{Version}
 use Rattle.strip_format.specs.declared.Head.{Head}
 use Rattle.strip_format.specs.declared.HeadRead.{HeadRead}
 
@@ -147,16 +148,16 @@ module _ (v : Version) (xs ys : List ℕ) where
   whole-within : HeadThere v xs → readHead v (xs ++ ys) ≡ readHead v xs
   whole-within t =
       head-judged v (xs ++ ys) (head-within t)
-      ∙ ap (λ (ns : List ℕ). judgedHead v (headOf ns)) (fields-within (headFields v) xs ys 0 (omega (arith, t .whole)))
+      ∙ ap (λ (ns : List ℕ). judgedHead (headOf v ns)) (fields-within (headFields v) xs ys 0 (omega (arith, t .whole)))
       ∙ sym (head-judged v xs t)
 
   -- What is read of bytes that are not cut stays, whatever follows.
   pub head-settled : (readHead v xs .reply ≡ cut → ⊥) → readHead v (xs ++ ys) ≡ readHead v xs
   unfolding readHead refusedHead
-  head-settled n = go (leb 3 (length xs)) refl (eqb (numberAt xs 2 1) (v .number)) refl (eqb (numberAt xs 0 2) (headLength v)) refl (leb (size (headFields v)) (length xs)) refl
+  head-settled n = go (leb 3 (length xs)) refl (eqb (numberAt xs 2 1) (numberOf v)) refl (eqb (numberAt xs 0 2) (headLength v)) refl (leb (size (headFields v)) (length xs)) refl
     where
-      begun : {a b c d : Bool} → leb 3 (length xs) ≡ a → eqb (numberAt xs 2 1) (v .number) ≡ b → eqb (numberAt xs 0 2) (headLength v) ≡ c → leb (size (headFields v)) (length xs) ≡ d
-          → readHead v xs ≡ cond a (cond b (cond c (cond d (judgedHead v (headOf (fieldsAt (headFields v) xs 0))) (refusedHead cut)) (refusedHead badLength)) (refusedHead badVersion)) (refusedHead cut)
+      begun : {a b c d : Bool} → leb 3 (length xs) ≡ a → eqb (numberAt xs 2 1) (numberOf v) ≡ b → eqb (numberAt xs 0 2) (headLength v) ≡ c → leb (size (headFields v)) (length xs) ≡ d
+          → readHead v xs ≡ cond a (cond b (cond c (cond d (judgedHead (headOf v (fieldsAt (headFields v) xs 0))) (refusedHead cut)) (refusedHead badLength)) (refusedHead badVersion)) (refusedHead cut)
       begun p q r s = rw (p, q, r, s)
 
       reply-cut : readHead v xs ≡ refusedHead cut → readHead v xs .reply ≡ cut
@@ -174,19 +175,19 @@ module _ (v : Version) (xs ys : List ℕ) where
       first : leb 3 (length xs) ≡ true → numberAt (xs ++ ys) 0 2 ≡ numberAt xs 0 2
       first p = let l = three p in number-within xs ys 0 2 (omega arith)
 
-      go : (a : Bool) → leb 3 (length xs) ≡ a → (b : Bool) → eqb (numberAt xs 2 1) (v .number) ≡ b → (c : Bool) → eqb (numberAt xs 0 2) (headLength v) ≡ c
+      go : (a : Bool) → leb 3 (length xs) ≡ a → (b : Bool) → eqb (numberAt xs 2 1) (numberOf v) ≡ b → (c : Bool) → eqb (numberAt xs 0 2) (headLength v) ≡ c
           → (d : Bool) → leb (size (headFields v)) (length xs) ≡ d → readHead v (xs ++ ys) ≡ readHead v xs
       go false p b q c r d s = absurd (n (reply-cut (begun p q r s)))
       go true p false q c r d s =
-          head-other-version v (xs ++ ys) (enough p) (λ e. eqb-false (numberAt xs 2 1) (v .number) q (sym (third p) ∙ e)) ∙ sym (begun p q r s)
+          head-other-version v (xs ++ ys) (enough p) (λ e. eqb-false (numberAt xs 2 1) (numberOf v) q (sym (third p) ∙ e)) ∙ sym (begun p q r s)
       go true p true q false r d s =
-          head-wrong-length v (xs ++ ys) (enough p) (third p ∙ eqb-true (numberAt xs 2 1) (v .number) q) (λ e. eqb-false (numberAt xs 0 2) (headLength v) r (sym (first p) ∙ e))
+          head-wrong-length v (xs ++ ys) (enough p) (third p ∙ eqb-true (numberAt xs 2 1) (numberOf v) q) (λ e. eqb-false (numberAt xs 0 2) (headLength v) r (sym (first p) ∙ e))
           ∙ sym (begun p q r s)
       go true p true q true r false s = absurd (n (reply-cut (begun p q r s)))
       go true p true q true r true s =
           whole-within
           (record {
-            version = eqb-true (numberAt xs 2 1) (v .number) q;
+            version = eqb-true (numberAt xs 2 1) (numberOf v) q;
             says = eqb-true (numberAt xs 0 2) (headLength v) r;
             whole = leb-true (size (headFields v)) (length xs) s;
           })
@@ -221,9 +222,9 @@ figures-never-cut : (f : Figures) → recordRefusal f ≡ cut → ⊥
 unfolding recordRefusal
 figures-never-cut f e = never-cut true true (Figure.accepted f) true e
 
-numbers-never-cut : (v : Version) (h : Head) → headRefusal v h ≡ cut → ⊥
+numbers-never-cut : (h : Head) → headRefusal h ≡ cut → ⊥
 unfolding headRefusal
-numbers-never-cut v h e = never-cut (isSamples (h .samples)) (Settings.accepted (h .settings) && isThreshold v (h .threshold)) true true e
+numbers-never-cut h e = never-cut (isSamples (h .samples)) (Settings.accepted (h .settings) && isThreshold (h .version) (h .threshold)) true true e
 
 pub record-cut-short : (v : Version) (xs : List ℕ) → readRecord v xs 0 .reply ≡ cut → length xs < size recordFields
 unfolding refusedRecord found
@@ -245,15 +246,47 @@ pub head-cut-short : (v : Version) (xs : List ℕ) → readHead v xs .reply ≡ 
 unfolding refusedHead
 head-cut-short v xs e = go (leb (size (headFields v)) (length xs)) refl
   where
-    whole : size (headFields v) ≤ length xs → (b : Bool) → eqb (numberAt xs 2 1) (v .number) ≡ b → (c : Bool) → eqb (numberAt xs 0 2) (headLength v) ≡ c → ⊥
+    whole : size (headFields v) ≤ length xs → (b : Bool) → eqb (numberAt xs 2 1) (numberOf v) ≡ b → (c : Bool) → eqb (numberAt xs 0 2) (headLength v) ≡ c → ⊥
     whole l false q c r =
-        omega (arith, sym e ∙ ap (λ (x : HeadRead). x .reply) (head-other-version v xs (omega arith) (eqb-false (numberAt xs 2 1) (v .number) q)))
+        omega (arith, sym e ∙ ap (λ (x : HeadRead). x .reply) (head-other-version v xs (omega arith) (eqb-false (numberAt xs 2 1) (numberOf v) q)))
     whole l true q false r =
-        omega (arith, sym e ∙ ap (λ (x : HeadRead). x .reply) (head-wrong-length v xs (omega arith) (eqb-true (numberAt xs 2 1) (v .number) q) (eqb-false (numberAt xs 0 2) (headLength v) r)))
+        omega (arith, sym e ∙ ap (λ (x : HeadRead). x .reply) (head-wrong-length v xs (omega arith) (eqb-true (numberAt xs 2 1) (numberOf v) q) (eqb-false (numberAt xs 0 2) (headLength v) r)))
     whole l true q true r =
-        let t : HeadThere v xs = record { version = eqb-true (numberAt xs 2 1) (v .number) q; says = eqb-true (numberAt xs 0 2) (headLength v) r; whole = l } in
-        numbers-never-cut v (headOf (fieldsAt (headFields v) xs 0)) (sym (judged-head-reply v (headOf (fieldsAt (headFields v) xs 0))) ∙ sym (ap (λ (x : HeadRead). x .reply) (head-judged v xs t)) ∙ e)
+        let t : HeadThere v xs = record { version = eqb-true (numberAt xs 2 1) (numberOf v) q; says = eqb-true (numberAt xs 0 2) (headLength v) r; whole = l } in
+        numbers-never-cut (headOf v (fieldsAt (headFields v) xs 0)) (sym (judged-head-reply (headOf v (fieldsAt (headFields v) xs 0))) ∙ sym (ap (λ (x : HeadRead). x .reply) (head-judged v xs t)) ∙ e)
 
     go : (d : Bool) → leb (size (headFields v)) (length xs) ≡ d → length xs < size (headFields v)
     go false s = omega (arith, leb-false (size (headFields v)) (length xs) s)
-    go true s = absurd (whole (leb-true (size (headFields v)) (length xs) s) (eqb (numberAt xs 2 1) (v .number)) refl (eqb (numberAt xs 0 2) (headLength v)) refl)
+    go true s = absurd (whole (leb-true (size (headFields v)) (length xs) s) (eqb (numberAt xs 2 1) (numberOf v)) refl (eqb (numberAt xs 0 2) (headLength v)) refl)
+
+-- ---- in the version that a strip says
+-- Once three bytes are there the version stays.
+pub version-within : (xs ys : List ℕ) → 3 ≤ length xs → versionOf (xs ++ ys) ≡ versionOf xs
+unfolding versionOf
+version-within xs ys l = rw (number-within xs ys 2 1 (omega arith))
+
+-- Fewer than three are cut in every version.
+too-few : (v : Version) (xs : List ℕ) → length xs < 3 → readHead v xs .reply ≡ cut
+unfolding refusedHead
+too-few v xs l = ap (λ (r : HeadRead). r .reply) (head-too-short v xs l)
+
+module _ (xs ys : List ℕ) where
+  -- The version of a head that is settled stays, whatever follows,
+  pub version-settled : (readHead (versionOf xs) xs .reply ≡ cut → ⊥) → versionOf (xs ++ ys) ≡ versionOf xs
+  version-settled n = go (leb 3 (length xs)) refl
+    where
+      go : (t : Bool) → leb 3 (length xs) ≡ t → versionOf (xs ++ ys) ≡ versionOf xs
+      go true l = version-within xs ys (leb-true 3 (length xs) l)
+      go false l = absurd (n (too-few (versionOf xs) xs (leb-false 3 (length xs) l)))
+
+  -- and so does what is read.
+  pub said-settled : (readHead (versionOf xs) xs .reply ≡ cut → ⊥) → readHead (versionOf (xs ++ ys)) (xs ++ ys) ≡ readHead (versionOf xs) xs
+  said-settled n = ap (λ (v : Version). readHead v (xs ++ ys)) (version-settled n) ∙ head-settled (versionOf xs) xs ys n
+
+  -- What is cut in the version that it says is cut in the one that it says with what follows.
+  pub cut-before : readHead (versionOf xs) xs .reply ≡ cut → readHead (versionOf (xs ++ ys)) xs .reply ≡ cut
+  cut-before e = go (leb 3 (length xs)) refl
+    where
+      go : (t : Bool) → leb 3 (length xs) ≡ t → readHead (versionOf (xs ++ ys)) xs .reply ≡ cut
+      go true l = ap (λ (v : Version). readHead v xs .reply) (version-within xs ys (leb-true 3 (length xs) l)) ∙ e
+      go false l = too-few (versionOf (xs ++ ys)) xs (leb-false 3 (length xs) l)

@@ -10,11 +10,12 @@ use lib.Dec.{eqb}
 use lib.ListN.{length, drop}
 use Rattle.units.specs.Replies.{done, cut, badLength, badVersion, noRoom}
 use Rattle.strip_format.specs.Fields.{size, numberAt, fieldsAt}
-use Rattle.strip_format.specs.Format.{Version, headFields, headLength, headOf, recordFields, recordLength, figuresOf, figures, gap}
+use Rattle.strip_format.specs.Format.{numberOf, headFields, headLength, headOf, recordFields, recordLength, figuresOf, figures, gap}
 use Rattle.units.specs.Output.{put}
 use Rattle.strip_format.specs.Calls.{headRefusal, refusedHead, judgedHead, readHead, recordRefusal, refusedRecord, ended, found, isGap, judgedRecord, readRecord}
 use Rattle.strip_format.specs.Laws.Steps.{HeadThere, RecordThere, head-by-place, head-placed, record-by-place, no-gap, record-placed}
 use Rattle.units.specs.declared.figures.Figures.{Figures}
+use Rattle.strip_format.specs.declared.Version.{Version}
 use Rattle.strip_format.specs.declared.Head.{Head}
 
 module _ (v : Version) (strip : List ℕ) where
@@ -24,41 +25,41 @@ module _ (v : Version) (strip : List ℕ) where
   head-too-short h = rw (lt-leb 3 (length strip) h)
 
   -- "version 7", whatever the length says
-  pub head-other-version : 3 ≤ length strip → (numberAt strip 2 1 ≡ v .number → ⊥) → readHead v strip ≡ refusedHead badVersion
+  pub head-other-version : 3 ≤ length strip → (numberAt strip 2 1 ≡ numberOf v → ⊥) → readHead v strip ≡ refusedHead badVersion
   unfolding readHead
-  head-other-version h n = rw (le-leb 3 (length strip) h, ne-eqb (numberAt strip 2 1) (v .number) n)
+  head-other-version h n = rw (le-leb 3 (length strip) h, ne-eqb (numberAt strip 2 1) (numberOf v) n)
 
   -- "head length 6", whether or not the head is there whole
-  pub head-wrong-length : 3 ≤ length strip → numberAt strip 2 1 ≡ v .number → (numberAt strip 0 2 ≡ headLength v → ⊥)
+  pub head-wrong-length : 3 ≤ length strip → numberAt strip 2 1 ≡ numberOf v → (numberAt strip 0 2 ≡ headLength v → ⊥)
       → readHead v strip ≡ refusedHead badLength
   unfolding readHead
   head-wrong-length h n l =
-      rw (le-leb 3 (length strip) h, eq-eqb (numberAt strip 2 1) (v .number) n, ne-eqb (numberAt strip 0 2) (headLength v) l)
+      rw (le-leb 3 (length strip) h, eq-eqb (numberAt strip 2 1) (numberOf v) n, ne-eqb (numberAt strip 0 2) (headLength v) l)
 
   -- "cut 5"
-  pub head-cut : 3 ≤ length strip → numberAt strip 2 1 ≡ v .number → numberAt strip 0 2 ≡ headLength v → length strip < size (headFields v)
+  pub head-cut : 3 ≤ length strip → numberAt strip 2 1 ≡ numberOf v → numberAt strip 0 2 ≡ headLength v → length strip < size (headFields v)
       → readHead v strip ≡ refusedHead cut
   unfolding readHead
   head-cut h n l c =
       rw (
         le-leb 3 (length strip) h,
-        eq-eqb (numberAt strip 2 1) (v .number) n,
+        eq-eqb (numberAt strip 2 1) (numberOf v) n,
         eq-eqb (numberAt strip 0 2) (headLength v) l,
         lt-leb (size (headFields v)) (length strip) c,
       )
 
   -- "then 1, 4": a head that is there whole is refused as its numbers are
-  pub head-judged : HeadThere v strip → readHead v strip ≡ judgedHead v (headOf (fieldsAt (headFields v) strip 0))
+  pub head-judged : HeadThere v strip → readHead v strip ≡ judgedHead (headOf v (fieldsAt (headFields v) strip 0))
   head-judged t = head-by-place v strip ∙ rw (head-placed v strip t)
 
 -- and where its numbers are not refused, it is the answer
-pub judged-head-reply : (v : Version) (h : Head) → judgedHead v h .reply ≡ headRefusal v h
+pub judged-head-reply : (h : Head) → judgedHead h .reply ≡ headRefusal h
 unfolding judgedHead refusedHead
-judged-head-reply v h = go (eqb (headRefusal v h) done) refl
+judged-head-reply h = go (eqb (headRefusal h) done) refl
   where
-    go : (b : Bool) → eqb (headRefusal v h) done ≡ b
-        → cond b (record { reply = done; head = h }) (refusedHead (headRefusal v h)) .reply ≡ headRefusal v h
-    go true e = sym (eqb-true (headRefusal v h) done e)
+    go : (b : Bool) → eqb (headRefusal h) done ≡ b
+        → cond b (record { reply = done; head = h }) (refusedHead (headRefusal h)) .reply ≡ headRefusal h
+    go true e = sym (eqb-true (headRefusal h) done e)
     go false e = refl
 
 module _ (v : Version) (strip : List ℕ) (at : ℕ) where

@@ -4,18 +4,27 @@ use mathlib.Core.Path.{_≡_, refl, sym, ap}
 use mathlib.Core.Bool.{Bool, true, false, _&&_, cond}
 use mathlib.Core.List.{List, _++_}
 use Prim.Native.Nat.{ℕ, _+_, _-_, _≤_, _<_}
+use native.Mathlib.Nat.{zero-add}
 use native.Mathlib.Omega.{arith}
 use borrow.Author.Tests.{leb-true, leb-false, le-leb, lt-leb, eqb-true, eqb-false, eq-eqb, ne-eqb}
 use lib.Dec.{eqb, leb, ltb}
-use lib.ListN.{length, take, drop}
+use lib.ListN.{length, getD, take, drop}
 use lib.Seq.{take-at, drop-drop, drop-at}
 use Rattle.units.specs.Replies.{done, cut, badLength, badVersion}
 use Rattle.strip_format.specs.Fields.{size, numberAt, fieldsAt}
-use Rattle.strip_format.specs.Format.{Version, headFields, headLength, headOf, recordFields, recordLength, gapLength, figuresOf}
+use Rattle.strip_format.specs.Format.{numberOf, hasGaps, headFields, headLength, headOf, recordFields, recordLength, gapLength, figuresOf}
 use Rattle.units.specs.Output.{put}
 use Rattle.strip_format.specs.Calls.{Read, refusedHead, judgedHead, readHead, refusedRecord, judgedRecord, isGap, ended, readRecord}
 use Rattle.strip_format.specs.Steps.{headPlace, recordPlace}
+use Rattle.strip_format.specs.declared.Version.{Version}
 
+-- ---- versions
+-- The third byte says the version.
+pub third-byte : (strip : List ℕ) → numberAt strip 2 1 ≡ getD strip 2 0
+unfolding numberAt
+third-byte strip = rw zero-add
+
+-- ---- a head
 -- Four tests one after the other, each with its own refusal: the first that fails says the number.
 abbrev first : Bool → Bool → Bool → Bool → ℕ
 first a b c d = cond a (cond b (cond c (cond d done cut) badLength) badVersion) cut
@@ -38,15 +47,15 @@ passed false b c d e = absurd (omega arith)
 -- A head is read where its place is right, and refused with the place's number where it is not.
 pub head-by-place : (v : Version) (strip : List ℕ)
     → readHead v strip
-    ≡ cond (eqb (headPlace v strip) done) (judgedHead v (headOf (fieldsAt (headFields v) strip 0))) (refusedHead (headPlace v strip))
+    ≡ cond (eqb (headPlace v strip) done) (judgedHead (headOf v (fieldsAt (headFields v) strip 0))) (refusedHead (headPlace v strip))
 unfolding readHead headPlace
 head-by-place v strip =
-    nested refusedHead (judgedHead v (headOf (fieldsAt (headFields v) strip 0))) (leb 3 (length strip)) (eqb (numberAt strip 2 1) (v .number))
+    nested refusedHead (judgedHead (headOf v (fieldsAt (headFields v) strip 0))) (leb 3 (length strip)) (eqb (numberAt strip 2 1) (numberOf v))
     (eqb (numberAt strip 0 2) (headLength v)) (leb (size (headFields v)) (length strip))
 
 -- A head's place is right: its version, its length, and the head is there whole.
 pub record HeadThere (v : Version) (strip : List ℕ) : Type 0 where
-  pub version : numberAt strip 2 1 ≡ v .number
+  pub version : numberAt strip 2 1 ≡ numberOf v
   pub says : numberAt strip 0 2 ≡ headLength v
   pub whole : size (headFields v) ≤ length strip
 
@@ -54,10 +63,10 @@ pub head-there : (v : Version) (strip : List ℕ) → headPlace v strip ≡ done
 unfolding headPlace
 head-there v strip e =
     let tests =
-    passed (leb 3 (length strip)) (eqb (numberAt strip 2 1) (v .number)) (eqb (numberAt strip 0 2) (headLength v))
+    passed (leb 3 (length strip)) (eqb (numberAt strip 2 1) (numberOf v)) (eqb (numberAt strip 0 2) (headLength v))
     (leb (size (headFields v)) (length strip)) e in
     record {
-      version = eqb-true (numberAt strip 2 1) (v .number) (tests .1);
+      version = eqb-true (numberAt strip 2 1) (numberOf v) (tests .1);
       says = eqb-true (numberAt strip 0 2) (headLength v) (tests .2);
       whole = leb-true (size (headFields v)) (length strip) (tests .3);
     }
@@ -67,7 +76,7 @@ unfolding headPlace
 head-placed v strip t =
     rw (
       le-leb 3 (length strip) (omega (arith, t .whole)),
-      eq-eqb (numberAt strip 2 1) (v .number) (t .version),
+      eq-eqb (numberAt strip 2 1) (numberOf v) (t .version),
       eq-eqb (numberAt strip 0 2) (headLength v) (t .says),
       le-leb (size (headFields v)) (length strip) (t .whole),
     )
@@ -87,7 +96,7 @@ record-by-place v strip at g =
 
 -- The length of figures is no gap's.
 pub no-gap : (v : Version) (n : ℕ) → n ≡ recordLength → isGap v n ≡ false
-no-gap v n e = rw e (never (v .gaps))
+no-gap v n e = rw e (never (hasGaps v))
   where
     never : (b : Bool) → b && false ≡ false
     never true = refl

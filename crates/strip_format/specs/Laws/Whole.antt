@@ -13,7 +13,7 @@ use Rattle.lists.specs.Each.{Each, each-drop}
 use Rattle.units.specs.Replies.{done, cut, badLength}
 use Rattle.units.specs.declared.figures.Figures.{Figures}
 use Rattle.strip_format.specs.Fields.{size, numberAt, fieldsAt}
-use Rattle.strip_format.specs.Format.{Version, headFields, headBytes, recordFields, recordLength, figuresOf, gapFields, Entry, figures, gap, entrySize, entryBytes, entriesBytes, stripBytes}
+use Rattle.strip_format.specs.Format.{hasGaps, versionOf, headFields, headBytes, recordFields, recordLength, figuresOf, gapFields, Entry, figures, gap, entrySize, entryBytes, entriesBytes, stripBytes}
 use Rattle.strip_format.specs.Calls.{Read, headRefusal, readHead, recordRefusal, refusedRecord, ended, found, judgedRecord, isGap, readRecord}
 use Rattle.strip_format.specs.Whole.{Entries, joined, behind, entriesIn, entriesOf, Strip, readStrip}
 use Rattle.strip_format.specs.Laws.Fields.{Bytes, written-length}
@@ -22,13 +22,14 @@ use Rattle.strip_format.specs.Laws.Records as Records
 use Rattle.strip_format.specs.Laws.Refusals.{record-gap}
 use Rattle.strip_format.specs.Laws.Gaps.{gap-had, gap-rewrites}
 use Rattle.strip_format.specs.Laws.Prefix.{entry-fits}
+use Rattle.strip_format.specs.declared.Version.{Version}
 use Rattle.strip_format.specs.declared.Head.{Head}
 use Rattle.strip_format.specs.declared.HeadRead.{HeadRead}
 
 -- a record that the version can say: figures that are f32 and not refused, or a gap where it has them
 pub Accepted : Version → Entry → Type 0
 Accepted v (figures f) = Records.Held f × (recordRefusal f ≡ done)
-Accepted v gap = v .gaps ≡ true
+Accepted v gap = hasGaps v ≡ true
 
 -- ---- written, then read
 -- A record has as many bytes as its description says.
@@ -69,16 +70,21 @@ entries-back v (suc most) (e ∷ es) a l =
       entries-back v most es (a .1) (omega arith),
     )
 
-module _ (v : Version) (h : Head) (es : List Entry) (u : Heads.Usable v) (p : Heads.Held h) (r : headRefusal v h ≡ done) (a : Each (Accepted v) es) where
-  -- What is written of a whole strip reads back equal.
-  pub strip-back : readStrip v (stripBytes v h es) ≡ record { head = record { reply = done; head = h }; entries = es; reply = done }
+module _ (h : Head) (es : List Entry) (p : Heads.Held h) (r : headRefusal h ≡ done) (a : Each (Accepted (h .version)) es) where
+  -- What is written of a whole strip reads back equal,
+  pub strip-back : readStrip (h .version) (stripBytes h es) ≡ record { head = record { reply = done; head = h }; entries = es; reply = done }
   unfolding readStrip stripBytes entriesOf
   strip-back =
       rw (
-        Heads.written-head-reads v h (entriesBytes es) u p r,
-        drop-at (headBytes v h) (entriesBytes es) (size (headFields v)) (Heads.head-length v h u p r),
-        entries-back v (length (entriesBytes es)) es a (as-many v es a),
+        Heads.written-head-reads h p (entriesBytes es) r,
+        drop-at (headBytes h) (entriesBytes es) (size (headFields (h .version))) (Heads.head-length h p r),
+        entries-back (h .version) (length (entriesBytes es)) es a (as-many (h .version) es a),
       )
+
+  -- in the version that it says.
+  pub strip-says : versionOf (stripBytes h es) ≡ h .version
+  unfolding stripBytes
+  strip-says = Heads.written-says h (entriesBytes es) p r
 
 -- ---- read, then written
 -- What stands at the start of bytes: a record; nothing, where there is no byte; or what is refused.
@@ -175,7 +181,7 @@ taken v strip t =
     (record { head = readHead v strip; entries = []; reply = readHead v strip .reply })
 
 rewritten : (v : Version) (strip : List ℕ) → Bytes strip → (t : Bool) → eqb (readHead v strip .reply) done ≡ t → taken v strip t .reply ≡ done
-    → stripBytes v (taken v strip t .head .head) (taken v strip t .entries) ≡ strip
+    → stripBytes (taken v strip t .head .head) (taken v strip t .entries) ≡ strip
 unfolding stripBytes entriesOf
 rewritten v strip b true t e =
     let rest = drop (size (headFields v)) strip in
@@ -186,6 +192,6 @@ rewritten v strip b false t e = absurd (eqb-false (readHead v strip .reply) done
 
 -- A strip that was read whole rewrites to the same bytes.
 pub strip-rewrites : (v : Version) (strip : List ℕ) → Bytes strip → readStrip v strip .reply ≡ done
-    → stripBytes v (readStrip v strip .head .head) (readStrip v strip .entries) ≡ strip
+    → stripBytes (readStrip v strip .head .head) (readStrip v strip .entries) ≡ strip
 unfolding readStrip
 strip-rewrites v strip b e = rewritten v strip b (eqb (readHead v strip .reply) done) refl e

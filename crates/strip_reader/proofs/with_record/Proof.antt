@@ -8,6 +8,7 @@ use Rattle.units.specs.Replies.{cut}
 use Rattle.units.specs.declared.figures.Figures.{Figures}
 use Rattle.strip_format.specs.Format.{figures}
 use Rattle.strip_format.specs.Calls.{Read, entriesFound, readOf}
+use Rattle.strip_format.specs.declared.Version.{Version}
 use Rattle.strip_format.specs.declared.Found.{Found}
 use Rattle.strip_format.specs.declared.Found.the-variants.{None, Record}
 use Rattle.strip_format.specs.declared.RecordRead.{RecordRead}
@@ -26,17 +27,17 @@ unfolding stepOf handed recordFed readOf
 returns c = rw (eq-eqb _ _ (c .if1 .taken))
 
 -- a record that is not cut, by what was found
-uncut : (held : List ℕ) (count : ℕ) (r : RecordRead) (x : Found) → (r .reply ≡ cut → ⊥) → r .found ≡ x → recordFound held (r .reply) (entriesFound x) ≡ recordFed held count (readOf r)
+uncut : (v : Version) (held : List ℕ) (count : ℕ) (r : RecordRead) (x : Found) → (r .reply ≡ cut → ⊥) → r .found ≡ x → recordFound v held (r .reply) (entriesFound x) ≡ recordFed v held count (readOf r)
 unfolding recordFed readOf
-uncut held count r x n e = rw (ne-eqb _ _ n, e)
+uncut v held count r x n e = rw (ne-eqb _ _ n, e)
 
 returns-2 : tie.Need-returns-2
 unfolding stepOf handed recordFound
-returns-2 c = uncut _ _ _ None (c .before .before .if1 .left) (c .enum-told .given .1)
+returns-2 c = uncut _ _ _ _ None (c .before .before .if1 .left) (c .enum-told .given .1)
 
 returns-3 : tie.Need-returns-3
 unfolding stepOf handed recordFound
-returns-3 c = uncut _ _ _ (Record _) (c .before .before .before .if1 .left) (c .before .found .given .1)
+returns-3 c = uncut _ _ _ _ (Record _) (c .before .before .before .if1 .left) (c .before .found .given .1)
 
 pub with-record-spec : {M : Type 1} → statement M
 with-record-spec = tie.close (tie.spec enum-told enum-known-found returns returns-2 returns-3)

@@ -4,7 +4,6 @@ use mathlib.Core.Path.{_≡_, refl, sym, ap, _∙_}
 use mathlib.Core.Bool.{Bool, true, false, cond}
 use mathlib.Core.List.{List, [], _∷_, _++_}
 use Prim.Native.Nat.{ℕ}
-use Rattle.strip_format.specs.Format.{Version}
 use Rattle.strip_reader.specs.Reader.{Handed, isMore, fed}
 use Rattle.strip_reader.specs.Feeding.{Fold, joins, feed, feedBlocks, whole}
 use Rattle.strip_reader.specs.declared.Reader.{Reader}
@@ -18,15 +17,15 @@ joins-append h xs ys = go (isMore h)
     go false = refl
 
 -- Bytes that come in two pieces give what each gives, one after the other.
-pub feed-append : (v : Version) (r : Reader) (xs ys : List ℕ)
-    → feed v r (xs ++ ys) ≡ record { reader = feed v (feed v r xs .reader) ys .reader; out = feed v r xs .out ++ feed v (feed v r xs .reader) ys .out }
+pub feed-append : (r : Reader) (xs ys : List ℕ)
+    → feed r (xs ++ ys) ≡ record { reader = feed (feed r xs .reader) ys .reader; out = feed r xs .out ++ feed (feed r xs .reader) ys .out }
 unfolding feed
-feed-append v r [] ys = refl
-feed-append v r (x ∷ xs) ys =
-    rw (feed-append v (fed v r x .reader) xs ys, joins-append (fed v r x .got) (feed v (fed v r x .reader) xs .out) (feed v (feed v (fed v r x .reader) xs .reader) ys .out))
+feed-append r [] ys = refl
+feed-append r (x ∷ xs) ys =
+    rw (feed-append (fed r x .reader) xs ys, joins-append (fed r x .got) (feed (fed r x .reader) xs .out) (feed (feed (fed r x .reader) xs .reader) ys .out))
 
 -- Blocks give what all their bytes give.
-pub feed-blocks : (v : Version) (r : Reader) (blocks : List (List ℕ)) → feedBlocks v r blocks ≡ feed v r (whole blocks)
+pub feed-blocks : (r : Reader) (blocks : List (List ℕ)) → feedBlocks r blocks ≡ feed r (whole blocks)
 unfolding feedBlocks feed whole
-feed-blocks v r [] = refl
-feed-blocks v r (b ∷ bs) = rw (feed-blocks v (feed v r b .reader) bs, feed-append v r b (whole bs))
+feed-blocks r [] = refl
+feed-blocks r (b ∷ bs) = rw (feed-blocks (feed r b .reader) bs, feed-append r b (whole bs))

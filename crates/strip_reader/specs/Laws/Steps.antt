@@ -6,7 +6,6 @@ use mathlib.Core.List.{List, [], _∷_}
 use Prim.Native.Nat.{ℕ, zero, suc, _+_}
 use native.Mathlib.Nat.{zero-add}
 use native.Mathlib.Omega.{arith}
-use Rattle.strip_format.specs.Format.{Version}
 use Rattle.strip_reader.specs.Reader.{Handed, more, head, entry, end, refused, isMore, Fed, Taken, fed, before, next}
 use Rattle.strip_reader.specs.declared.Reader.{Reader}
 
@@ -15,13 +14,13 @@ counted : ℕ → Taken → Taken
 counted used t = record { reader = t .reader; used = used + t .used; got = t .got }
 
 -- so many bytes were used; where nothing came out yet the others follow
-unfoldable pub onward : Version → Bool → ℕ → Reader → Handed → List ℕ → Taken
+unfoldable pub onward : Bool → ℕ → Reader → Handed → List ℕ → Taken
 unfolding next counted
-onward v waits used r got bytes = cond waits (counted used (next v r bytes)) (record { reader = r; used = used; got = got })
+onward waits used r got bytes = cond waits (counted used (next r bytes)) (record { reader = r; used = used; got = got })
 
-pub onward-none : (v : Version) (r : Reader) (got : Handed) (bytes : List ℕ) → onward v true 0 r got bytes ≡ next v r bytes
+pub onward-none : (r : Reader) (got : Handed) (bytes : List ℕ) → onward true 0 r got bytes ≡ next r bytes
 unfolding onward counted
-onward-none v r got bytes = ap {B = Taken} (λ (n : ℕ). record { reader = next v r bytes .reader; used = n; got = next v r bytes .got }) (zero-add (next v r bytes .used))
+onward-none r got bytes = ap {B = Taken} (λ (n : ℕ). record { reader = next r bytes .reader; used = n; got = next r bytes .got }) (zero-add (next r bytes .used))
 
 counted-before : (used : ℕ) (f : Fed) (t : Taken)
     → counted used (before f t) ≡ cond (isMore (f .got)) (counted (used + 1) t) (record { reader = f .reader; used = used + 1; got = f .got })
@@ -35,10 +34,10 @@ counted-before used f t = go (isMore (f .got))
     go false = refl
 
 -- one byte more
-pub onward-byte : (v : Version) (used : ℕ) (r : Reader) (got : Handed) (byte : ℕ) (bytes : List ℕ)
-    → onward v true used r got (byte ∷ bytes) ≡ onward v (isMore (fed v r byte .got)) (used + 1) (fed v r byte .reader) (fed v r byte .got) bytes
+pub onward-byte : (used : ℕ) (r : Reader) (got : Handed) (byte : ℕ) (bytes : List ℕ)
+    → onward true used r got (byte ∷ bytes) ≡ onward (isMore (fed r byte .got)) (used + 1) (fed r byte .reader) (fed r byte .got) bytes
 unfolding onward next
-onward-byte v used r got byte bytes = counted-before used (fed v r byte) (next v (fed v r byte .reader) bytes)
+onward-byte used r got byte bytes = counted-before used (fed r byte) (next (fed r byte .reader) bytes)
 
 -- what is more is nothing else
 pub is-more : (h : Handed) → isMore h ≡ true → h ≡ more
@@ -50,7 +49,7 @@ is-more end e = absurd (omega (arith, ap {B = ℕ} (λ (b : Bool). cond b 1 0) e
 is-more (refused n) e = absurd (omega (arith, ap {B = ℕ} (λ (b : Bool). cond b 1 0) e))
 
 -- at the block's end, and where something came out, it is what stands
-pub onward-over : (v : Version) (waits : Bool) (used : ℕ) (r : Reader) (got : Handed) → waits ≡ isMore got → onward v waits used r got [] ≡ record { reader = r; used = used; got = got }
+pub onward-over : (waits : Bool) (used : ℕ) (r : Reader) (got : Handed) → waits ≡ isMore got → onward waits used r got [] ≡ record { reader = r; used = used; got = got }
 unfolding onward next counted
-onward-over v true used r got e = rw (is-more got (sym e)) (ap {B = Taken} (λ (n : ℕ). record { reader = r; used = n; got = more }) (omega arith))
-onward-over v false used r got e = refl
+onward-over true used r got e = rw (is-more got (sym e)) (ap {B = Taken} (λ (n : ℕ). record { reader = r; used = n; got = more }) (omega arith))
+onward-over false used r got e = refl

@@ -14,11 +14,14 @@ use lib.ListN.{length, take, drop, set, length-set, length-append}
 use lib.Seq.{take-suc-set, drop-at, length-take-le}
 use Rattle.units.specs.Replies.{done, cut, badSetting}
 use Rattle.strip_format.specs.Fields.{size}
-use Rattle.strip_format.specs.Format.{Version, headFields, recordFields, Entry, entrySize}
+use Rattle.strip_format.specs.Format.{versionOf, headFields, recordFields, Entry, entrySize}
 use Rattle.strip_format.specs.Calls.{Read, readHead, refusedRecord, ended, found, readRecord}
 use Rattle.strip_format.specs.Whole.{Entries, joined, behind, entriesIn, entriesOf, Strip, readStrip}
-use Rattle.strip_format.specs.Laws.Prefix.{none-of-nothing, record-settled, record-ends, record-cut-short, head-settled, head-ends, head-cut-short}
+use Rattle.strip_format.specs.Laws.Prefix.{none-of-nothing, record-settled, record-ends, record-cut-short, head-settled, head-ends, head-cut-short, version-settled, cut-before}
+use Rattle.strip_format.specs.Laws.Heads.{read-version}
 use Rattle.strip_format.specs.Laws.Whole.{Seen, here, over, refused, seen}
+use Rattle.strip_format.specs.declared.Version.{Version}
+use Rattle.strip_format.specs.declared.Version.the-variants.{One, Two}
 use Rattle.strip_format.specs.declared.HeadRead.{HeadRead}
 use Rattle.strip_reader.specs.Reader as Reading
 use Rattle.strip_reader.specs.Feeding.{Fold, joins, feed, feedBlocks, whole, handedOut, ending, entriesThen, handedBy}
@@ -39,76 +42,81 @@ held-more : (r : Reader) (b : ℕ) → Ready r → take (r .count + 1) (set (r .
 held-more r b h = rw (add-one (r .count)) (take-suc-set (r .held) (r .count) b (omega (arith, h .long, h .space)))
 
 -- and the reader with it
-with-byte : Reader → ℕ → ℕ → Reader
-with-byte r b stage = record { held = set (r .held) (r .count) b; count = r .count + 1; stage = stage }
+with-byte : Reader → ℕ → ℕ → Version → Reader
+with-byte r b stage v = record { held = set (r .held) (r .count) b; count = r .count + 1; stage = stage; version = v }
 
-emptied : Reader → ℕ → ℕ → Reader
-emptied r b stage = record { held = set (r .held) (r .count) b; count = 0; stage = stage }
+emptied : Reader → ℕ → ℕ → Version → Reader
+emptied r b stage v = record { held = set (r .held) (r .count) b; count = 0; stage = stage; version = v }
 
 passing : (r : Reader) → Ready r → r .stage ≤ Reading.over → Reading.passes r ≡ true
 unfolding Reading.passes
 passing r h s = rw (lt-ltb (r .count) Reading.room (h .space), le-leb (r .stage) Reading.over s)
 
-module _ (v : Version) (r : Reader) (b : ℕ) (h : Ready r) where
+-- a head in the version that it says
+abbrev headSaid : List ℕ → HeadRead
+headSaid xs = readHead (versionOf xs) xs
+
+module _ (r : Reader) (b : ℕ) (h : Ready r) where
   -- a byte at the records, and one at the head
-  at-record : r .stage ≡ Reading.atRecords
-      → Reading.fed v r b ≡ Reading.recordFed (set (r .held) (r .count) b) (r .count + 1) (readRecord v (bytesOf r ++ (b ∷ [])) 0)
+  at-record : (v : Version) → r .version ≡ v → r .stage ≡ Reading.atRecords
+      → Reading.fed r b ≡ Reading.recordFed v (set (r .held) (r .count) b) (r .count + 1) (readRecord v (bytesOf r ++ (b ∷ [])) 0)
   unfolding Reading.fed
-  at-record s = rw (passing r h (omega arith), s, held-more r b h)
+  at-record v w s = rw (passing r h (omega arith), s, held-more r b h, w)
 
   at-head : r .stage ≡ Reading.atHead
-      → Reading.fed v r b ≡ Reading.headFed (set (r .held) (r .count) b) (r .count + 1) (readHead v (bytesOf r ++ (b ∷ [])))
+      → Reading.fed r b ≡ Reading.headFed (set (r .held) (r .count) b) (r .count + 1) (headSaid (bytesOf r ++ (b ∷ [])))
   unfolding Reading.fed
   at-head s = rw (passing r h (omega arith), s, held-more r b h)
 
 -- After a refusal nothing comes out any more.
-stays : (v : Version) (r : Reader) (b : ℕ) → Ready r → r .stage ≡ Reading.over → Reading.fed v r b ≡ record { reader = r; got = Reading.more }
+stays : (r : Reader) (b : ℕ) → Ready r → r .stage ≡ Reading.over → Reading.fed r b ≡ record { reader = r; got = Reading.more }
 unfolding Reading.fed
-stays v r b h s = rw (passing r h (omega arith), eq-eqb (r .stage) Reading.over s)
+stays r b h s = rw (passing r h (omega arith), eq-eqb (r .stage) Reading.over s)
 
-feed-byte : (v : Version) (r : Reader) (b : ℕ) (bs : List ℕ) (f : Reading.Fed) → Reading.fed v r b ≡ f
-    → feed v r (b ∷ bs) ≡ record { reader = feed v (f .reader) bs .reader; out = joins (f .got) (feed v (f .reader) bs .out) }
+feed-byte : (r : Reader) (b : ℕ) (bs : List ℕ) (f : Reading.Fed) → Reading.fed r b ≡ f
+    → feed r (b ∷ bs) ≡ record { reader = feed (f .reader) bs .reader; out = joins (f .got) (feed (f .reader) bs .out) }
 unfolding feed
-feed-byte v r b bs f e = ap (λ (x : Reading.Fed). record { reader = feed v (x .reader) bs .reader; out = joins (x .got) (feed v (x .reader) bs .out) }) e
+feed-byte r b bs f e = ap (λ (x : Reading.Fed). record { reader = feed (x .reader) bs .reader; out = joins (x .got) (feed (x .reader) bs .out) }) e
 
-silent : (v : Version) (r : Reader) (bytes : List ℕ) → Ready r → r .stage ≡ Reading.over → feed v r bytes ≡ record { reader = r; out = [] }
+silent : (r : Reader) (bytes : List ℕ) → Ready r → r .stage ≡ Reading.over → feed r bytes ≡ record { reader = r; out = [] }
 unfolding feed joins Reading.isMore
-silent v r [] h s = refl
-silent v r (b ∷ bs) h s =
-    feed-byte v r b bs (record { reader = r; got = Reading.more }) (stays v r b h s)
-    ∙ ap (λ (x : Fold). record { reader = x .reader; out = x .out }) (silent v r bs h s)
+silent r [] h s = refl
+silent r (b ∷ bs) h s =
+    feed-byte r b bs (record { reader = r; got = Reading.more }) (stays r b h s)
+    ∙ ap (λ (x : Fold). record { reader = x .reader; out = x .out }) (silent r bs h s)
 
 -- what comes out in the end, after all that came out before
 abbrev ended-by : Fold → List Reading.Handed
 ended-by f = f .out ++ joins (Reading.finished (f .reader)) []
 
-abbrev outOf : Version → Reader → List ℕ → List Reading.Handed
-outOf v r bytes = ended-by (feed v r bytes)
+abbrev outOf : Reader → List ℕ → List Reading.Handed
+outOf r bytes = ended-by (feed r bytes)
 
 -- one byte more
-out-byte : (v : Version) (r : Reader) (b : ℕ) (bs : List ℕ) (f : Reading.Fed) → Reading.fed v r b ≡ f → outOf v r (b ∷ bs) ≡ joins (f .got) (outOf v (f .reader) bs)
-out-byte v r b bs f e =
-    ap ended-by (feed-byte v r b bs f e)
-    ∙ sym (joins-append (f .got) (feed v (f .reader) bs .out) (joins (Reading.finished (feed v (f .reader) bs .reader)) []))
+out-byte : (r : Reader) (b : ℕ) (bs : List ℕ) (f : Reading.Fed) → Reading.fed r b ≡ f → outOf r (b ∷ bs) ≡ joins (f .got) (outOf (f .reader) bs)
+out-byte r b bs f e =
+    ap ended-by (feed-byte r b bs f e)
+    ∙ sym (joins-append (f .got) (feed (f .reader) bs .out) (joins (Reading.finished (feed (f .reader) bs .reader)) []))
 
-out-silent : (v : Version) (r : Reader) (bs : List ℕ) → Ready r → r .stage ≡ Reading.over → outOf v r bs ≡ []
+out-silent : (r : Reader) (bs : List ℕ) → Ready r → r .stage ≡ Reading.over → outOf r bs ≡ []
 unfolding joins Reading.finished Reading.isMore
-out-silent v r bs h s = ap ended-by (silent v r bs h s) ∙ rw (passing r h (omega arith), eq-eqb (r .stage) Reading.over s)
+out-silent r bs h s = ap ended-by (silent r bs h s) ∙ rw (passing r h (omega arith), eq-eqb (r .stage) Reading.over s)
 
 -- ---- the records
 -- a reader at the records: it holds nothing, or the beginning of a record
 record AtRecords (v : Version) (r : Reader) : Type 0 where
   ready : Ready r
   stage : r .stage ≡ Reading.atRecords
+  version : r .version ≡ v
   begun : (r .count ≡ 0) ⊎ (readRecord v (bytesOf r) 0 .reply ≡ cut)
 
-emptied-ready : (r : Reader) (b stage : ℕ) → Ready r → Ready (emptied r b stage)
+emptied-ready : (r : Reader) (b stage : ℕ) (v : Version) → Ready r → Ready (emptied r b stage v)
 unfolding emptied
-emptied-ready r b stage h = record { long = simp length-set (h .long); space = omega arith }
+emptied-ready r b stage v h = record { long = simp length-set (h .long); space = omega arith }
 
-emptied-records : (v : Version) (r : Reader) (b : ℕ) → Ready r → AtRecords v (emptied r b Reading.atRecords)
+emptied-records : (v : Version) (r : Reader) (b : ℕ) → Ready r → AtRecords v (emptied r b Reading.atRecords v)
 unfolding emptied
-emptied-records v r b h = record { ready = emptied-ready r b Reading.atRecords h; stage = refl; begun = inl refl }
+emptied-records v r b h = record { ready = emptied-ready r b Reading.atRecords v h; stage = refl; version = refl; begun = inl refl }
 
 -- what the bytes that it holds and those that follow are
 abbrev entriesThere : ℕ → Version → List ℕ → List Reading.Handed
@@ -168,7 +176,7 @@ cut-end : (r : Reader) → Ready r → r .stage ≡ Reading.atRecords → (r .co
 unfolding joins Reading.finished Reading.isMore
 cut-end r h s n = rw (passing r h (omega arith), s, ne-eqb (r .count) 0 n)
 
-none-left : (v : Version) (r : Reader) → AtRecords v r → (most : ℕ) → length (bytesOf r ++ []) ≤ most → outOf v r [] ≡ entriesThere most v (bytesOf r ++ [])
+none-left : (v : Version) (r : Reader) → AtRecords v r → (most : ℕ) → length (bytesOf r ++ []) ≤ most → outOf r [] ≡ entriesThere most v (bytesOf r ++ [])
 unfolding feed
 none-left v r a most l = go (a .begun) most l
   where
@@ -190,40 +198,45 @@ none-left v r a most l = go (a .begun) most l
         ∙ sym (ap (entriesThere (suc m) v) held ∙ cut-there v m (bytesOf r) (cut-is v (bytesOf r) c))
 
 -- what a byte at the records gives, by what is read with it
-module _ (v : Version) (r : Reader) (b : ℕ) (h : Ready r) (s : r .stage ≡ Reading.atRecords) where
-  found-fed : (e : Entry) → readRecord v (bytesOf r ++ (b ∷ [])) 0 ≡ found e → Reading.fed v r b ≡ record { reader = emptied r b Reading.atRecords; got = Reading.entry e }
-  unfolding Reading.recordFed Reading.recordFound found emptied
-  found-fed e i = at-record v r b h s ∙ rw i
+module _ (v : Version) (r : Reader) (b : ℕ) (a : AtRecords v r) where
+  by-record : Reading.fed r b ≡ Reading.recordFed v (set (r .held) (r .count) b) (r .count + 1) (readRecord v (bytesOf r ++ (b ∷ [])) 0)
+  by-record = at-record r b (a .ready) v (a .version) (a .stage)
 
-  cut-fed : readRecord v (bytesOf r ++ (b ∷ [])) 0 ≡ refusedRecord cut → Reading.fed v r b ≡ record { reader = with-byte r b Reading.atRecords; got = Reading.more }
+  found-fed : (e : Entry) → readRecord v (bytesOf r ++ (b ∷ [])) 0 ≡ found e
+      → Reading.fed r b ≡ record { reader = emptied r b Reading.atRecords v; got = Reading.entry e }
+  unfolding Reading.recordFed Reading.recordFound found emptied
+  found-fed e i = by-record ∙ rw i
+
+  cut-fed : readRecord v (bytesOf r ++ (b ∷ [])) 0 ≡ refusedRecord cut
+      → Reading.fed r b ≡ record { reader = with-byte r b Reading.atRecords v; got = Reading.more }
   unfolding Reading.recordFed refusedRecord with-byte
-  cut-fed i = at-record v r b h s ∙ rw i
+  cut-fed i = by-record ∙ rw i
 
   refused-fed : (n : ℕ) → (n ≡ cut → ⊥) → readRecord v (bytesOf r ++ (b ∷ [])) 0 ≡ refusedRecord n
-      → Reading.fed v r b ≡ record { reader = emptied r b Reading.over; got = Reading.refused n }
+      → Reading.fed r b ≡ record { reader = emptied r b Reading.over v; got = Reading.refused n }
   unfolding Reading.recordFed Reading.recordFound refusedRecord emptied
-  refused-fed n c i = at-record v r b h s ∙ rw (i, ne-eqb n cut c)
+  refused-fed n c i = by-record ∙ rw (i, ne-eqb n cut c)
 
 -- a reader that waits on with one byte more
-waits-on : (v : Version) → size recordFields ≤ Reading.room → (r : Reader) (b : ℕ) → Ready r → readRecord v (bytesOf r ++ (b ∷ [])) 0 .reply ≡ cut
-    → AtRecords v (with-byte r b Reading.atRecords)
+waits-on : (v : Version) (r : Reader) (b : ℕ) → Ready r → readRecord v (bytesOf r ++ (b ∷ [])) 0 .reply ≡ cut → AtRecords v (with-byte r b Reading.atRecords v)
 unfolding with-byte
-waits-on v fits r b h c =
+waits-on v r b h c =
     let short = record-cut-short v (bytesOf r ++ (b ∷ [])) c in
     let one-more : length (bytesOf r ++ (b ∷ [])) ≡ r .count + 1 = rw (length-append, length-take-le (r .count) (r .held) (omega (arith, h .long, h .space))) in
     record {
       ready = record { long = simp length-set (h .long); space = omega arith };
       stage = refl;
+      version = refl;
       begun = inr (ap (λ (xs : List ℕ). readRecord v xs 0 .reply) (held-more r b h) ∙ c);
     }
 
 -- one byte more
-byte-more : (v : Version) → size recordFields ≤ Reading.room → (r : Reader) (b : ℕ) (bs : List ℕ) → AtRecords v r → (most : ℕ) → length (bytesOf r ++ (b ∷ bs)) ≤ most
-    → ((q : Reader) → AtRecords v q → (m : ℕ) → length (bytesOf q ++ bs) ≤ m → outOf v q bs ≡ entriesThere m v (bytesOf q ++ bs))
-    → outOf v r (b ∷ bs) ≡ entriesThere most v (bytesOf r ++ (b ∷ bs))
+byte-more : (v : Version) (r : Reader) (b : ℕ) (bs : List ℕ) → AtRecords v r → (most : ℕ) → length (bytesOf r ++ (b ∷ bs)) ≤ most
+    → ((q : Reader) → AtRecords v q → (m : ℕ) → length (bytesOf q ++ bs) ≤ m → outOf q bs ≡ entriesThere m v (bytesOf q ++ bs))
+    → outOf r (b ∷ bs) ≡ entriesThere most v (bytesOf r ++ (b ∷ bs))
 unfolding joins Reading.isMore emptied with-byte refusedRecord
-byte-more v fits r b bs a zero l again = absurd (omega (arith, l, ap length (regroup (bytesOf r) b bs), length-append (bytesOf r) (b ∷ bs)))
-byte-more v fits r b bs a (suc most) l again = go (seen v (bytesOf r ++ (b ∷ [])))
+byte-more v r b bs a zero l again = absurd (omega (arith, l, ap length (regroup (bytesOf r) b bs), length-append (bytesOf r) (b ∷ bs)))
+byte-more v r b bs a (suc most) l again = go (seen v (bytesOf r ++ (b ∷ [])))
   where
     some : 0 < length (bytesOf r ++ (b ∷ []))
     some = rw length-append (omega arith)
@@ -239,59 +252,70 @@ byte-more v fits r b bs a (suc most) l again = go (seen v (bytesOf r ++ (b ∷ [
     begun (inr c) = inr c
 
     by-reply : (n : ℕ) → (n ≡ done → ⊥) → readRecord v (bytesOf r ++ (b ∷ [])) 0 ≡ refusedRecord n → (t : Bool) → eqb n cut ≡ t
-        → outOf v r (b ∷ bs) ≡ entriesThere (suc most) v (bytesOf r ++ (b ∷ bs))
+        → outOf r (b ∷ bs) ≡ entriesThere (suc most) v (bytesOf r ++ (b ∷ bs))
     by-reply n d i true t =
         let c : readRecord v (bytesOf r ++ (b ∷ [])) 0 ≡ refusedRecord cut = i ∙ ap refusedRecord (eqb-true n cut t) in
-        let waits = waits-on v fits r b (a .ready) (ap (λ (x : Read). x .reply) c) in
-        let same : bytesOf (with-byte r b Reading.atRecords) ++ bs ≡ bytesOf r ++ (b ∷ bs) = ap (λ (xs : List ℕ). xs ++ bs) (held-more r b (a .ready)) ∙ sym (regroup (bytesOf r) b bs) in
-        out-byte v r b bs _ (cut-fed v r b (a .ready) (a .stage) c)
-        ∙ again (with-byte r b Reading.atRecords) waits (suc most) (rw same l)
+        let waits = waits-on v r b (a .ready) (ap (λ (x : Read). x .reply) c) in
+        let same : bytesOf (with-byte r b Reading.atRecords v) ++ bs ≡ bytesOf r ++ (b ∷ bs) = ap (λ (xs : List ℕ). xs ++ bs) (held-more r b (a .ready)) ∙ sym (regroup (bytesOf r) b bs) in
+        out-byte r b bs _ (cut-fed v r b a c)
+        ∙ again (with-byte r b Reading.atRecords v) waits (suc most) (rw same l)
         ∙ ap (entriesThere (suc most) v) same
     by-reply n d i false t =
         let c = eqb-false n cut t in
-        out-byte v r b bs _ (refused-fed v r b (a .ready) (a .stage) n c i)
-        ∙ ap (λ (out : List Reading.Handed). Reading.refused n ∷ out) (out-silent v (emptied r b Reading.over) bs (emptied-ready r b Reading.over (a .ready)) refl)
+        out-byte r b bs _ (refused-fed v r b a n c i)
+        ∙ ap (λ (out : List Reading.Handed). Reading.refused n ∷ out) (out-silent (emptied r b Reading.over v) bs (emptied-ready r b Reading.over v (a .ready)) refl)
         ∙ sym (whole-is ∙ refused-first v most (bytesOf r ++ (b ∷ [])) bs n some i d c)
 
-    go : Seen v (bytesOf r ++ (b ∷ [])) → outOf v r (b ∷ bs) ≡ entriesThere (suc most) v (bytesOf r ++ (b ∷ bs))
+    go : Seen v (bytesOf r ++ (b ∷ [])) → outOf r (b ∷ bs) ≡ entriesThere (suc most) v (bytesOf r ++ (b ∷ bs))
     go (here i) =
         let e = i .entry in
-        out-byte v r b bs _ (found-fed v r b (a .ready) (a .stage) e (i .is))
-        ∙ ap (λ (out : List Reading.Handed). Reading.entry e ∷ out) (again (emptied r b Reading.atRecords) (emptied-records v r b (a .ready)) most fewer)
+        out-byte r b bs _ (found-fed v r b a e (i .is))
+        ∙ ap (λ (out : List Reading.Handed). Reading.entry e ∷ out) (again (emptied r b Reading.atRecords v) (emptied-records v r b (a .ready)) most fewer)
         ∙ sym (whole-is ∙ entry-first v most (bytesOf r ++ (b ∷ [])) bs e some (i .is) (record-ends v (bytesOf r) b e (begun (a .begun)) (i .is)))
     go (over o) = absurd (omega (arith, some, o .none))
     go (refused f) = by-reply (f .reply) (f .bad) (f .is) (eqb (f .reply) cut) refl
 
 -- The records of the bytes that a reader at the records holds, and of those that follow, come out.
-records-out : (v : Version) → size recordFields ≤ Reading.room → (bytes : List ℕ) (r : Reader) → AtRecords v r → (most : ℕ) → length (bytesOf r ++ bytes) ≤ most
-    → outOf v r bytes ≡ entriesThere most v (bytesOf r ++ bytes)
-records-out v fits [] r a most l = none-left v r a most l
-records-out v fits (b ∷ bs) r a most l = byte-more v fits r b bs a most l (records-out v fits bs)
+records-out : (v : Version) (bytes : List ℕ) (r : Reader) → AtRecords v r → (most : ℕ) → length (bytesOf r ++ bytes) ≤ most
+    → outOf r bytes ≡ entriesThere most v (bytesOf r ++ bytes)
+records-out v [] r a most l = none-left v r a most l
+records-out v (b ∷ bs) r a most l = byte-more v r b bs a most l (records-out v bs)
 
 -- ---- the head
 -- a reader at the head: it holds the beginning of one
-record AtHead (v : Version) (r : Reader) : Type 0 where
+record AtHead (r : Reader) : Type 0 where
   ready : Ready r
   stage : r .stage ≡ Reading.atHead
-  begun : readHead v (bytesOf r) .reply ≡ cut
+  begun : headSaid (bytesOf r) .reply ≡ cut
+
+-- no head is longer than the room
+longest : (v : Version) → size (headFields v) ≤ Reading.room
+longest One = omega arith
+longest Two = omega arith
 
 -- what a byte at the head gives, by what is read with it
-module _ (v : Version) (r : Reader) (b : ℕ) (h : Ready r) (s : r .stage ≡ Reading.atHead) where
-  head-done : readHead v (bytesOf r ++ (b ∷ [])) .reply ≡ done
-      → Reading.fed v r b ≡ record { reader = emptied r b Reading.atRecords; got = Reading.head (readHead v (bytesOf r ++ (b ∷ [])) .head) }
-  unfolding Reading.headFed emptied
-  head-done d = at-head v r b h s ∙ rw d
+module _ (r : Reader) (b : ℕ) (h : Ready r) (s : r .stage ≡ Reading.atHead) where
+  abbrev said : HeadRead
+  said = headSaid (bytesOf r ++ (b ∷ []))
 
-  head-more : readHead v (bytesOf r ++ (b ∷ [])) .reply ≡ cut → Reading.fed v r b ≡ record { reader = with-byte r b Reading.atHead; got = Reading.more }
+  head-done : said .reply ≡ done → Reading.fed r b ≡ record { reader = emptied r b Reading.atRecords (said .head .version); got = Reading.head (said .head) }
+  unfolding Reading.headFed emptied
+  head-done d = at-head r b h s ∙ rw d
+
+  head-more : said .reply ≡ cut → Reading.fed r b ≡ record { reader = with-byte r b Reading.atHead (said .head .version); got = Reading.more }
   unfolding Reading.headFed with-byte
-  head-more c = at-head v r b h s ∙ rw c
+  head-more c = at-head r b h s ∙ rw c
 
-  head-refused : (readHead v (bytesOf r ++ (b ∷ [])) .reply ≡ cut → ⊥) → (readHead v (bytesOf r ++ (b ∷ [])) .reply ≡ done → ⊥)
-      → Reading.fed v r b ≡ record { reader = emptied r b Reading.over; got = Reading.refused (readHead v (bytesOf r ++ (b ∷ [])) .reply) }
+  head-refused : (said .reply ≡ cut → ⊥) → (said .reply ≡ done → ⊥)
+      → Reading.fed r b ≡ record { reader = emptied r b Reading.over (said .head .version); got = Reading.refused (said .reply) }
   unfolding Reading.headFed emptied
-  head-refused c d = at-head v r b h s ∙ rw (ne-eqb (readHead v (bytesOf r ++ (b ∷ [])) .reply) cut c, ne-eqb (readHead v (bytesOf r ++ (b ∷ [])) .reply) done d)
+  head-refused c d = at-head r b h s ∙ rw (ne-eqb (said .reply) cut c, ne-eqb (said .reply) done d)
 
--- a whole strip whose head is refused, and one whose head is taken
+-- a whole strip in the version that it says
+abbrev stripSaid : List ℕ → Strip
+stripSaid xs = readStrip (versionOf xs) xs
+
+-- one whose head is refused, and one whose head is taken
 strip-refused : (v : Version) (xs : List ℕ) → (readHead v xs .reply ≡ done → ⊥) → handedBy (readStrip v xs) ≡ Reading.refused (readHead v xs .reply) ∷ []
 unfolding readStrip handedBy
 strip-refused v xs n = rw (ne-eqb (readHead v xs .reply) done n, ne-eqb (readHead v xs .reply) done n)
@@ -306,74 +330,89 @@ unfolding joins Reading.finished Reading.isMore
 head-end r h s = rw (passing r h (omega arith), s)
 
 -- a reader that waits on with one byte more of the head
-head-waits : (v : Version) → size (headFields v) ≤ Reading.room → (r : Reader) (b : ℕ) → Ready r → readHead v (bytesOf r ++ (b ∷ [])) .reply ≡ cut → AtHead v (with-byte r b Reading.atHead)
+head-waits : (r : Reader) (b : ℕ) (v : Version) → Ready r → headSaid (bytesOf r ++ (b ∷ [])) .reply ≡ cut → AtHead (with-byte r b Reading.atHead v)
 unfolding with-byte
-head-waits v fits r b h c =
-    let short = head-cut-short v (bytesOf r ++ (b ∷ [])) c in
-    let one-more : length (bytesOf r ++ (b ∷ [])) ≡ r .count + 1 = rw (length-append, length-take-le (r .count) (r .held) (omega (arith, h .long, h .space))) in
+head-waits r b v h c =
+    let xs = bytesOf r ++ (b ∷ []) in
+    let short = head-cut-short (versionOf xs) xs c in
+    let one-more : length xs ≡ r .count + 1 = rw (length-append, length-take-le (r .count) (r .held) (omega (arith, h .long, h .space))) in
     record {
-      ready = record { long = simp length-set (h .long); space = omega arith };
+      ready = record { long = simp length-set (h .long); space = omega (arith, longest (versionOf xs)) };
       stage = refl;
-      begun = ap (λ (xs : List ℕ). readHead v xs .reply) (held-more r b h) ∙ c;
+      begun = ap (λ (ys : List ℕ). headSaid ys .reply) (held-more r b h) ∙ c;
     }
 
-head-byte : (v : Version) → size (headFields v) ≤ Reading.room → size recordFields ≤ Reading.room → (r : Reader) (b : ℕ) (bs : List ℕ) → AtHead v r
-    → ((q : Reader) → AtHead v q → outOf v q bs ≡ handedBy (readStrip v (bytesOf q ++ bs))) → outOf v r (b ∷ bs) ≡ handedBy (readStrip v (bytesOf r ++ (b ∷ bs)))
+head-byte : (r : Reader) (b : ℕ) (bs : List ℕ) → AtHead r → ((q : Reader) → AtHead q → outOf q bs ≡ handedBy (stripSaid (bytesOf q ++ bs)))
+    → outOf r (b ∷ bs) ≡ handedBy (stripSaid (bytesOf r ++ (b ∷ bs)))
 unfolding joins Reading.isMore emptied with-byte
-head-byte v fits small r b bs a again = go (eqb (readHead v (bytesOf r ++ (b ∷ [])) .reply) cut) refl (eqb (readHead v (bytesOf r ++ (b ∷ [])) .reply) done) refl
+head-byte r b bs a again = go (eqb (headSaid xs .reply) cut) refl (eqb (headSaid xs .reply) done) refl
   where
-    whole-is : handedBy (readStrip v (bytesOf r ++ (b ∷ bs))) ≡ handedBy (readStrip v ((bytesOf r ++ (b ∷ [])) ++ bs))
-    whole-is = ap (λ (xs : List ℕ). handedBy (readStrip v xs)) (regroup (bytesOf r) b bs)
+    xs : List ℕ
+    xs = bytesOf r ++ (b ∷ [])
 
-    go : (c : Bool) → eqb (readHead v (bytesOf r ++ (b ∷ [])) .reply) cut ≡ c → (d : Bool) → eqb (readHead v (bytesOf r ++ (b ∷ [])) .reply) done ≡ d
-        → outOf v r (b ∷ bs) ≡ handedBy (readStrip v (bytesOf r ++ (b ∷ bs)))
+    v : Version
+    v = versionOf xs
+
+    whole-is : handedBy (stripSaid (bytesOf r ++ (b ∷ bs))) ≡ handedBy (stripSaid (xs ++ bs))
+    whole-is = ap (λ (ys : List ℕ). handedBy (stripSaid ys)) (regroup (bytesOf r) b bs)
+
+    -- once the head is settled the whole strip is read in its version
+    in-version : (headSaid xs .reply ≡ cut → ⊥) → handedBy (stripSaid (xs ++ bs)) ≡ handedBy (readStrip v (xs ++ bs))
+    in-version n = ap (λ (w : Version). handedBy (readStrip w (xs ++ bs))) (version-settled xs bs n)
+
+    go : (c : Bool) → eqb (headSaid xs .reply) cut ≡ c → (d : Bool) → eqb (headSaid xs .reply) done ≡ d → outOf r (b ∷ bs) ≡ handedBy (stripSaid (bytesOf r ++ (b ∷ bs)))
     go true c d e =
-        let is-cut = eqb-true (readHead v (bytesOf r ++ (b ∷ [])) .reply) cut c in
-        let same : bytesOf (with-byte r b Reading.atHead) ++ bs ≡ bytesOf r ++ (b ∷ bs) = ap (λ (xs : List ℕ). xs ++ bs) (held-more r b (a .ready)) ∙ sym (regroup (bytesOf r) b bs) in
-        out-byte v r b bs _ (head-more v r b (a .ready) (a .stage) is-cut)
-        ∙ again (with-byte r b Reading.atHead) (head-waits v fits r b (a .ready) is-cut)
-        ∙ ap (λ (xs : List ℕ). handedBy (readStrip v xs)) same
+        let is-cut = eqb-true (headSaid xs .reply) cut c in
+        let w = headSaid xs .head .version in
+        let same : bytesOf (with-byte r b Reading.atHead w) ++ bs ≡ bytesOf r ++ (b ∷ bs) = ap (λ (ys : List ℕ). ys ++ bs) (held-more r b (a .ready)) ∙ sym (regroup (bytesOf r) b bs) in
+        out-byte r b bs _ (head-more r b (a .ready) (a .stage) is-cut)
+        ∙ again (with-byte r b Reading.atHead w) (head-waits r b w (a .ready) is-cut)
+        ∙ ap (λ (ys : List ℕ). handedBy (stripSaid ys)) same
     go false c true e =
-        let is-done = eqb-true (readHead v (bytesOf r ++ (b ∷ [])) .reply) done e in
-        let stays : readHead v ((bytesOf r ++ (b ∷ [])) ++ bs) ≡ readHead v (bytesOf r ++ (b ∷ [])) = head-settled v (bytesOf r ++ (b ∷ [])) bs (eqb-false (readHead v (bytesOf r ++ (b ∷ [])) .reply) cut c) in
-        let rest : drop (size (headFields v)) ((bytesOf r ++ (b ∷ [])) ++ bs) ≡ bs = drop-at (bytesOf r ++ (b ∷ [])) bs (size (headFields v)) (sym (head-ends v (bytesOf r) b (a .begun) is-done)) in
-        out-byte v r b bs _ (head-done v r b (a .ready) (a .stage) is-done)
-        ∙ ap (λ (out : List Reading.Handed). Reading.head (readHead v (bytesOf r ++ (b ∷ [])) .head) ∷ out)
-        (records-out v small bs (emptied r b Reading.atRecords) (emptied-records v r b (a .ready)) (length bs) (omega arith))
+        let is-done = eqb-true (headSaid xs .reply) done e in
+        let not-cut = eqb-false (headSaid xs .reply) cut c in
+        let stays : readHead v (xs ++ bs) ≡ readHead v xs = head-settled v xs bs not-cut in
+        let rest : drop (size (headFields v)) (xs ++ bs) ≡ bs = drop-at xs bs (size (headFields v)) (sym (head-ends v (bytesOf r) b (cut-before (bytesOf r) (b ∷ []) (a .begun)) is-done)) in
+        let here = emptied-records v r b (a .ready) in
+        out-byte r b bs _ (head-done r b (a .ready) (a .stage) is-done)
+        ∙ ap (λ (w : Version). Reading.head (headSaid xs .head) ∷ outOf (emptied r b Reading.atRecords w) bs) (read-version v xs is-done)
+        ∙ ap (λ (out : List Reading.Handed). Reading.head (readHead v xs .head) ∷ out) (records-out v bs (emptied r b Reading.atRecords v) here (length bs) (omega arith))
         ∙ sym
         (whole-is
-        ∙ strip-taken v ((bytesOf r ++ (b ∷ [])) ++ bs) (ap (λ (x : HeadRead). x .reply) stays ∙ is-done)
+        ∙ in-version not-cut
+        ∙ strip-taken v (xs ++ bs) (ap (λ (x : HeadRead). x .reply) stays ∙ is-done)
         ∙ rw (stays, rest) refl)
     go false c false e =
-        let not-cut = eqb-false (readHead v (bytesOf r ++ (b ∷ [])) .reply) cut c in
-        let not-done = eqb-false (readHead v (bytesOf r ++ (b ∷ [])) .reply) done e in
-        let stays : readHead v ((bytesOf r ++ (b ∷ [])) ++ bs) ≡ readHead v (bytesOf r ++ (b ∷ [])) = head-settled v (bytesOf r ++ (b ∷ [])) bs not-cut in
-        out-byte v r b bs _ (head-refused v r b (a .ready) (a .stage) not-cut not-done)
-        ∙ ap (λ (out : List Reading.Handed). Reading.refused (readHead v (bytesOf r ++ (b ∷ [])) .reply) ∷ out)
-        (out-silent v (emptied r b Reading.over) bs (emptied-ready r b Reading.over (a .ready)) refl)
+        let not-cut = eqb-false (headSaid xs .reply) cut c in
+        let not-done = eqb-false (headSaid xs .reply) done e in
+        let w = headSaid xs .head .version in
+        let stays : readHead v (xs ++ bs) ≡ readHead v xs = head-settled v xs bs not-cut in
+        out-byte r b bs _ (head-refused r b (a .ready) (a .stage) not-cut not-done)
+        ∙ ap (λ (out : List Reading.Handed). Reading.refused (headSaid xs .reply) ∷ out)
+        (out-silent (emptied r b Reading.over w) bs (emptied-ready r b Reading.over w (a .ready)) refl)
         ∙ sym
         (whole-is
-        ∙ strip-refused v ((bytesOf r ++ (b ∷ [])) ++ bs) (λ d. not-done (sym (ap (λ (x : HeadRead). x .reply) stays) ∙ d))
+        ∙ in-version not-cut
+        ∙ strip-refused v (xs ++ bs) (λ d. not-done (sym (ap (λ (x : HeadRead). x .reply) stays) ∙ d))
         ∙ ap (λ (x : HeadRead). Reading.refused (x .reply) ∷ []) stays)
 
-head-out : (v : Version) → size (headFields v) ≤ Reading.room → size recordFields ≤ Reading.room → (bytes : List ℕ) (r : Reader) → AtHead v r → outOf v r bytes ≡ handedBy (readStrip v (bytesOf r ++ bytes))
+head-out : (bytes : List ℕ) (r : Reader) → AtHead r → outOf r bytes ≡ handedBy (stripSaid (bytesOf r ++ bytes))
 unfolding feed
-head-out v fits small [] r a =
+head-out [] r a =
     let held = append-nil (bytesOf r) in
     head-end r (a .ready) (a .stage)
     ∙ sym
-    (ap (λ (xs : List ℕ). handedBy (readStrip v xs)) held
-    ∙ strip-refused v (bytesOf r) (λ d. omega (arith, sym d ∙ a .begun))
+    (ap (λ (xs : List ℕ). handedBy (stripSaid xs)) held
+    ∙ strip-refused (versionOf (bytesOf r)) (bytesOf r) (λ d. omega (arith, sym d ∙ a .begun))
     ∙ ap (λ (n : ℕ). Reading.refused n ∷ []) (a .begun))
-head-out v fits small (b ∷ bs) r a = head-byte v fits small r b bs a (head-out v fits small bs)
+head-out (b ∷ bs) r a = head-byte r b bs a (head-out bs)
 
 -- a new reader is at the head
-fresh-head : (v : Version) → AtHead v Reading.fresh
+fresh-head : AtHead Reading.fresh
 unfolding Reading.fresh readHead
-fresh-head v = record { ready = record { long = refl; space = omega arith }; stage = refl; begun = refl }
+fresh-head = record { ready = record { long = refl; space = omega arith }; stage = refl; begun = refl }
 
--- Whatever the cutting into blocks, what comes out is what the whole strip has.
-pub any-cutting : (v : Version) → size (headFields v) ≤ Reading.room → size recordFields ≤ Reading.room → (blocks : List (List ℕ))
-    → handedOut v blocks ≡ handedBy (readStrip v (whole blocks))
+-- Whatever the cutting into blocks, what comes out is what the whole strip has, in the version that it says.
+pub any-cutting : (blocks : List (List ℕ)) → handedOut blocks ≡ handedBy (readStrip (versionOf (whole blocks)) (whole blocks))
 unfolding handedOut Reading.fresh
-any-cutting v fits small blocks = ap ended-by (feed-blocks v Reading.fresh blocks) ∙ head-out v fits small (whole blocks) Reading.fresh (fresh-head v)
+any-cutting blocks = ap ended-by (feed-blocks Reading.fresh blocks) ∙ head-out (whole blocks) Reading.fresh fresh-head

@@ -9,7 +9,6 @@ use borrow.Author.Needs.{needs}
 use borrow.Rule.Slice.PartMut.{putMid}
 use lib.ListN.{length, getD, take, drop, length-append, length-take, length-drop, drop-of-length-le, take-append-drop}
 use lib.Seq.{drop-cons, drop-drop, take-at, drop-at, length-take-le, take-all}
-use Rattle.strip_format.specs.Format.{one}
 use Rattle.strip_lines.specs.Lines.{longest}
 use Rattle.strip_reader.specs.Reader.{Handed, Fed, stepOf, handed, fed}
 use Rattle.strip_reader.specs.declared.Step.{Step}
@@ -25,8 +24,8 @@ use Rattle.strip_run.proofs.take_bytes.Tie as tie
 
 -- how far a block is taken
 record Going (block out₀ : List ℕ) (r₀ : Run) (out : List ℕ) (r : Run) (n i : ℕ) : Type 0 where
-  lines : take n out ++ ran one r (drop i block) .lines ≡ ran one r₀ block .lines
-  run : ran one r (drop i block) .run ≡ ran one r₀ block .run
+  lines : take n out ++ ran r (drop i block) .lines ≡ ran r₀ block .lines
+  run : ran r (drop i block) .run ≡ ran r₀ block .run
   rest : drop n out ≡ drop n out₀
   same : length out ≡ length out₀
   most : n ≤ longest * i
@@ -59,21 +58,21 @@ after-line out n line ys h l e =
     ∙ sym (append-assoc (take n out) line (drop (n + length line) out))
 
 -- one byte more
-next-byte : (block : List ℕ) (i : ℕ) (r : Run) (s : Step) (line : Line) → i < length block → stepOf s ≡ fed one (r .reader) (getD block i 0) → line ≡ lineOf (told (r .desk) (handed (s .got)))
-    → ran one r (drop i block)
+next-byte : (block : List ℕ) (i : ℕ) (r : Run) (s : Step) (line : Line) → i < length block → stepOf s ≡ fed (r .reader) (getD block i 0) → line ≡ lineOf (told (r .desk) (handed (s .got)))
+    → ran r (drop i block)
     ≡ record {
-      run = ran one (record { reader = s .reader; desk = line .desk }) (drop (i + 1) block) .run;
-      lines = told (r .desk) (handed (s .got)) .line ++ ran one (record { reader = s .reader; desk = line .desk }) (drop (i + 1) block) .lines;
+      run = ran (record { reader = s .reader; desk = line .desk }) (drop (i + 1) block) .run;
+      lines = told (r .desk) (handed (s .got)) .line ++ ran (record { reader = s .reader; desk = line .desk }) (drop (i + 1) block) .lines;
     }
 unfolding ran stepOf
 next-byte block i r s line l h e =
     let taken : Fed → Ran =
     λ (x : Fed).
     record {
-      run = ran one (record { reader = x .reader; desk = told (r .desk) (x .got) .desk }) (drop (suc i) block) .run;
-      lines = told (r .desk) (x .got) .line ++ ran one (record { reader = x .reader; desk = told (r .desk) (x .got) .desk }) (drop (suc i) block) .lines;
+      run = ran (record { reader = x .reader; desk = told (r .desk) (x .got) .desk }) (drop (suc i) block) .run;
+      lines = told (r .desk) (x .got) .line ++ ran (record { reader = x .reader; desk = told (r .desk) (x .got) .desk }) (drop (suc i) block) .lines;
     } in
-    ap (ran one r) (drop-cons block i 0 l) ∙ ap taken (sym h) ∙ rw (e, add-one i)
+    ap (ran r) (drop-cons block i 0 l) ∙ ap taken (sym h) ∙ rw (e, add-one i)
 
 shared-slice-read-take : tie.Need-shared-slice-read-take Inv-loop μ-loop
 shared-slice-read-take c = search needs
@@ -127,7 +126,7 @@ loop-less c = omega arith
 
 -- one byte further
 further : (block out₀ : List ℕ) (r₀ : Run) (out : List ℕ) (r : Run) (n i : ℕ) (s : Step) (line : Line) (ys : List ℕ) → Going block out₀ r₀ out r n i → i < length block → length block < length out₀ / longest
-    → stepOf s ≡ fed one (r .reader) (getD block i 0) → line ≡ lineOf (told (r .desk) (handed (s .got)))
+    → stepOf s ≡ fed (r .reader) (getD block i 0) → line ≡ lineOf (told (r .desk) (handed (s .got)))
     → ys ≡ lineOut (told (r .desk) (handed (s .got))) (take (length out - n) (drop n out))
     → Going block out₀ r₀ (putMid n (length out - n) out ys) (record { reader = s .reader; desk = line .desk }) (n + line .length) (i + 1)
 further block out₀ r₀ out r n i s line ys g l pre h e f =
@@ -140,9 +139,9 @@ further block out₀ r₀ out r n i s line ys g l pre h e f =
     let turn = next-byte block i r s line l h e in
     record {
       lines =
-          ap (λ (xs : List ℕ). xs ++ ran one (record { reader = s .reader; desk = line .desk }) (drop (i + 1) block) .lines)
+          ap (λ (xs : List ℕ). xs ++ ran (record { reader = s .reader; desk = line .desk }) (drop (i + 1) block) .lines)
           (ap (take (n + line .length)) end ∙ take-at (take n out ++ bytes) (drop (n + length bytes) out) (n + line .length) put)
-          ∙ append-assoc (take n out) bytes (ran one (record { reader = s .reader; desk = line .desk }) (drop (i + 1) block) .lines)
+          ∙ append-assoc (take n out) bytes (ran (record { reader = s .reader; desk = line .desk }) (drop (i + 1) block) .lines)
           ∙ ap (λ (x : Ran). take n out ++ x .lines) (sym turn)
           ∙ g .lines;
       run = ap (λ (x : Ran). x .run) (sym turn) ∙ g .run;
@@ -174,17 +173,17 @@ same-length c = c .before .loop .inv .same
 
 -- all bytes
 whole-block : (block out₀ : List ℕ) (r₀ : Run) (out : List ℕ) (r : Run) (n i : ℕ) → Going block out₀ r₀ out r n i → length block ≤ i → length block < length out₀ / longest
-    → (_≡_ {A = Taken} (record { reply = 0; run = r; length = n }) (record { reply = 0; run = ran one r₀ block .run; length = length (ran one r₀ block .lines) }))
-    × (out ≡ ran one r₀ block .lines ++ drop (length (ran one r₀ block .lines)) out₀)
+    → (_≡_ {A = Taken} (record { reply = 0; run = r; length = n }) (record { reply = 0; run = ran r₀ block .run; length = length (ran r₀ block .lines) }))
+    × (out ≡ ran r₀ block .lines ++ drop (length (ran r₀ block .lines)) out₀)
 unfolding ran
 whole-block block out₀ r₀ out r n i g l pre =
     let none : drop i block ≡ [] = drop-of-length-le block l in
     let within : n ≤ length out = omega (arith, g .most, g .same, g .within) in
-    let put : take n out ≡ ran one r₀ block .lines = sym (append-nil (take n out)) ∙ (rw none at (g .lines)) in
-    let last : r ≡ ran one r₀ block .run = rw none at (g .run) in
-    let long : n ≡ length (ran one r₀ block .lines) = sym (length-take-le n out within) ∙ ap length put in (
+    let put : take n out ≡ ran r₀ block .lines = sym (append-nil (take n out)) ∙ (rw none at (g .lines)) in
+    let last : r ≡ ran r₀ block .run = rw none at (g .run) in
+    let long : n ≡ length (ran r₀ block .lines) = sym (length-take-le n out within) ∙ ap length put in (
       λ j. record { reply = 0; run = last j; length = long j },
-      sym (take-append-drop n out) ∙ ap (λ (xs : List ℕ). xs ++ drop n out) put ∙ ap (λ (xs : List ℕ). ran one r₀ block .lines ++ xs) (g .rest ∙ ap (λ (m : ℕ). drop m out₀) long),
+      sym (take-append-drop n out) ∙ ap (λ (xs : List ℕ). xs ++ drop n out) put ∙ ap (λ (xs : List ℕ). ran r₀ block .lines ++ xs) (g .rest ∙ ap (λ (m : ℕ). drop m out₀) long),
     )
 
 returns : tie.Need-returns Inv-loop μ-loop

@@ -7,10 +7,8 @@ use Prim.Native.Nat.{ℕ, _≤_, _<_}
 use native.Mathlib.Omega.{arith}
 use lib.ListN.{length}
 use Rattle.lists.specs.Each.{Each}
-use Rattle.strip_format.specs.Fields.{size}
-use Rattle.strip_format.specs.Format.{Version, headFields, recordFields}
 use Rattle.strip_format.specs.Whole.{readStrip}
-use Rattle.strip_reader.specs.Reader.{Handed, more, isMore, fed, finished, fresh, room}
+use Rattle.strip_reader.specs.Reader.{Handed, more, isMore, fed, finished, fresh}
 use Rattle.strip_reader.specs.Feeding.{joins, feed, feedBlocks, whole, handedOut, handedBy}
 use Rattle.strip_reader.specs.Laws.Steps.{is-more}
 use Rattle.strip_reader.specs.Laws.Whole.{any-cutting}
@@ -57,19 +55,19 @@ desk-append d [] ys = refl
 desk-append d (x ∷ xs) ys = desk-append (told d x .desk) xs ys
 
 -- What a run prints is what is handed out, told one after the other.
-ran-is : (v : Version) (r : Run) (bytes : List ℕ)
-    → ran v r bytes
+ran-is : (r : Run) (bytes : List ℕ)
+    → ran r bytes
     ≡ record {
-      run = record { reader = feed v (r .reader) bytes .reader; desk = deskOf (r .desk) (feed v (r .reader) bytes .out) };
-      lines = linesOf (r .desk) (feed v (r .reader) bytes .out);
+      run = record { reader = feed (r .reader) bytes .reader; desk = deskOf (r .desk) (feed (r .reader) bytes .out) };
+      lines = linesOf (r .desk) (feed (r .reader) bytes .out);
     }
 unfolding ran feed deskOf linesOf
-ran-is v r [] = refl
-ran-is v r (b ∷ bs) =
-    let f = fed v (r .reader) b in
+ran-is r [] = refl
+ran-is r (b ∷ bs) =
+    let f = fed (r .reader) b in
     let t = told (r .desk) (f .got) in
-    let rest = feed v (f .reader) bs in
-    ap (λ (x : Ran). record { run = x .run; lines = t .line ++ x .lines }) (ran-is v (record { reader = f .reader; desk = t .desk }) bs)
+    let rest = feed (f .reader) bs in
+    ap (λ (x : Ran). record { run = x .run; lines = t .line ++ x .lines }) (ran-is (record { reader = f .reader; desk = t .desk }) bs)
     ∙ (λ i. record {
       run = record { reader = rest .reader; desk = sym (desk-joins (r .desk) (f .got) (rest .out)) i };
       lines = sym (lines-joins (r .desk) (f .got) (rest .out)) i;
@@ -77,48 +75,48 @@ ran-is v r (b ∷ bs) =
 
 -- ---- blocks
 -- A block that is not empty is taken byte by byte.
-taken-is : (v : Version) (r : Run) (block : List ℕ) → 0 < length block → taken v r block ≡ ran v r block
+taken-is : (r : Run) (block : List ℕ) → 0 < length block → taken r block ≡ ran r block
 unfolding taken
-taken-is v r [] h = absurd (omega arith)
-taken-is v r (b ∷ bs) h = refl
+taken-is r [] h = absurd (omega arith)
+taken-is r (b ∷ bs) h = refl
 
-blocks-print : (v : Version) (r : Run) (blocks : List (List ℕ)) → Each (λ (block : List ℕ). 0 < length block) blocks
-    → takenBlocks v r blocks ≡ linesOf (r .desk) (feedBlocks v (r .reader) blocks .out ++ joins (finished (feedBlocks v (r .reader) blocks .reader)) [])
+blocks-print : (r : Run) (blocks : List (List ℕ)) → Each (λ (block : List ℕ). 0 < length block) blocks
+    → takenBlocks r blocks ≡ linesOf (r .desk) (feedBlocks (r .reader) blocks .out ++ joins (finished (feedBlocks (r .reader) blocks .reader)) [])
 unfolding takenBlocks feedBlocks taken ended linesOf Each
-blocks-print v r [] some =
+blocks-print r [] some =
     let t = told (r .desk) (finished (r .reader)) in
     sym (lines-joins (r .desk) (finished (r .reader)) [] ∙ append-nil (t .line))
-blocks-print v r (block ∷ blocks) some =
-    let f = feed v (r .reader) block in
-    let g = feedBlocks v (f .reader) blocks in
+blocks-print r (block ∷ blocks) some =
+    let f = feed (r .reader) block in
+    let g = feedBlocks (f .reader) blocks in
     let last = joins (finished (g .reader)) [] in
-    ap (λ (x : Ran). x .lines ++ takenBlocks v (x .run) blocks) (taken-is v r block (some .0) ∙ ran-is v r block)
-    ∙ ap (λ (l : List ℕ). linesOf (r .desk) (f .out) ++ l) (blocks-print v (record { reader = f .reader; desk = deskOf (r .desk) (f .out) }) blocks (some .1))
+    ap (λ (x : Ran). x .lines ++ takenBlocks (x .run) blocks) (taken-is r block (some .0) ∙ ran-is r block)
+    ∙ ap (λ (l : List ℕ). linesOf (r .desk) (f .out) ++ l) (blocks-print (record { reader = f .reader; desk = deskOf (r .desk) (f .out) }) blocks (some .1))
     ∙ sym (ap (linesOf (r .desk)) (append-assoc (f .out) (g .out) last) ∙ lines-append (r .desk) (f .out) (g .out ++ last))
 
-blocks-reply : (v : Version) (r : Run) (blocks : List (List ℕ)) → Each (λ (block : List ℕ). 0 < length block) blocks
-    → runAfter v r blocks .desk .reply ≡ deskOf (r .desk) (feedBlocks v (r .reader) blocks .out ++ joins (finished (feedBlocks v (r .reader) blocks .reader)) []) .reply
+blocks-reply : (r : Run) (blocks : List (List ℕ)) → Each (λ (block : List ℕ). 0 < length block) blocks
+    → runAfter r blocks .desk .reply ≡ deskOf (r .desk) (feedBlocks (r .reader) blocks .out ++ joins (finished (feedBlocks (r .reader) blocks .reader)) []) .reply
 unfolding runAfter feedBlocks taken ended deskOf Each
-blocks-reply v r [] some = sym (ap (λ (d : Desk). d .reply) (desk-joins (r .desk) (finished (r .reader)) []))
-blocks-reply v r (block ∷ blocks) some =
-    let f = feed v (r .reader) block in
-    let g = feedBlocks v (f .reader) blocks in
+blocks-reply r [] some = sym (ap (λ (d : Desk). d .reply) (desk-joins (r .desk) (finished (r .reader)) []))
+blocks-reply r (block ∷ blocks) some =
+    let f = feed (r .reader) block in
+    let g = feedBlocks (f .reader) blocks in
     let last = joins (finished (g .reader)) [] in
-    ap (λ (x : Ran). runAfter v (x .run) blocks .desk .reply) (taken-is v r block (some .0) ∙ ran-is v r block)
-    ∙ blocks-reply v (record { reader = f .reader; desk = deskOf (r .desk) (f .out) }) blocks (some .1)
+    ap (λ (x : Ran). runAfter (x .run) blocks .desk .reply) (taken-is r block (some .0) ∙ ran-is r block)
+    ∙ blocks-reply (record { reader = f .reader; desk = deskOf (r .desk) (f .out) }) blocks (some .1)
     ∙ sym (ap (λ (d : Desk). d .reply) (ap (deskOf (r .desk)) (append-assoc (f .out) (g .out) last) ∙ desk-append (r .desk) (f .out) (g .out ++ last)))
 
 -- Whatever the cutting into blocks, the lines are those of the whole strip.
-pub any-cutting-prints : (v : Version) → size (headFields v) ≤ room → size recordFields ≤ room → (blocks : List (List ℕ)) → Each (λ (block : List ℕ). 0 < length block) blocks
-    → takenBlocks v new blocks ≡ lines v (whole blocks)
+pub any-cutting-prints : (blocks : List (List ℕ)) → Each (λ (block : List ℕ). 0 < length block) blocks
+    → takenBlocks new blocks ≡ lines (whole blocks)
 unfolding new lines handedOut
-any-cutting-prints v fits small blocks some = blocks-print v new blocks some ∙ ap (linesOf atStart) (any-cutting v fits small blocks)
+any-cutting-prints blocks some = blocks-print new blocks some ∙ ap (linesOf atStart) (any-cutting blocks)
 
 -- And so is the reply.
-pub any-cutting-replies : (v : Version) → size (headFields v) ≤ room → size recordFields ≤ room → (blocks : List (List ℕ)) → Each (λ (block : List ℕ). 0 < length block) blocks
-    → runAfter v new blocks .desk .reply ≡ replyOf v (whole blocks)
+pub any-cutting-replies : (blocks : List (List ℕ)) → Each (λ (block : List ℕ). 0 < length block) blocks
+    → runAfter new blocks .desk .reply ≡ replyOf (whole blocks)
 unfolding new replyOf handedOut
-any-cutting-replies v fits small blocks some = blocks-reply v new blocks some ∙ ap (λ (hs : List Handed). deskOf atStart hs .reply) (any-cutting v fits small blocks)
+any-cutting-replies blocks some = blocks-reply new blocks some ∙ ap (λ (hs : List Handed). deskOf atStart hs .reply) (any-cutting blocks)
 
 -- ---- a run that has ended may stop there: whatever comes after it prints nothing, and leaves the reply
 told-over : (d : Desk) (h : Handed) → d .more ≡ false → told d h ≡ unchanged d
@@ -135,7 +133,7 @@ unfolding deskOf
 desk-over d [] e = refl
 desk-over d (h ∷ hs) e = rw (told-over d h e) (desk-over d hs e)
 
-pub ended-stays : (v : Version) (r : Run) (blocks : List (List ℕ)) → Each (λ (block : List ℕ). 0 < length block) blocks → r .desk .more ≡ false
-    → (takenBlocks v r blocks ≡ []) × (runAfter v r blocks .desk .reply ≡ r .desk .reply)
-ended-stays v r blocks some e =
-    (blocks-print v r blocks some ∙ lines-over (r .desk) _ e, blocks-reply v r blocks some ∙ ap (λ (d : Desk). d .reply) (desk-over (r .desk) _ e))
+pub ended-stays : (r : Run) (blocks : List (List ℕ)) → Each (λ (block : List ℕ). 0 < length block) blocks → r .desk .more ≡ false
+    → (takenBlocks r blocks ≡ []) × (runAfter r blocks .desk .reply ≡ r .desk .reply)
+ended-stays r blocks some e =
+    (blocks-print r blocks some ∙ lines-over (r .desk) _ e, blocks-reply r blocks some ∙ ap (λ (d : Desk). d .reply) (desk-over (r .desk) _ e))

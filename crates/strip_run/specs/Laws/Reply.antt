@@ -14,7 +14,7 @@ use Rattle.chain.specs.declared.Made.{Made}
 use Rattle.chain.specs.declared.Published.{Published}
 use Rattle.chain.specs.declared.Reading.{Reading}
 use Rattle.chain.specs.declared.SamplesRead.{SamplesRead}
-use Rattle.strip_format.specs.Format.{Version, Entry, figures, gap}
+use Rattle.strip_format.specs.Format.{versionOf, Entry, figures, gap}
 use Rattle.strip_format.specs.Whole.{Strip, readStrip}
 use Rattle.strip_format.specs.declared.Head.{Head}
 use Rattle.strip_lines.specs.Lines.{recordLine}
@@ -125,6 +125,6 @@ strip-told s = go (eqb (s .head .reply) done)
     go false e = refused-told atStart (s .reply) fresh e
 
 -- Where the reply is 0, the strip was read to its end.
-pub read-whole : (v : Version) (strip : List ℕ) → replyOf v strip ≡ done → readStrip v strip .reply ≡ done
+pub read-whole : (strip : List ℕ) → replyOf strip ≡ done → readStrip (versionOf strip) strip .reply ≡ done
 unfolding replyOf
-read-whole v strip e = strip-told (readStrip v strip) e
+read-whole strip e = strip-told (readStrip (versionOf strip) strip) e

@@ -15,7 +15,7 @@ use Rattle.chain.specs.declared.Made.{Made}
 use Rattle.chain.specs.declared.Published.{Published}
 use Rattle.chain.specs.declared.Reading.{Reading}
 use Rattle.chain.specs.declared.SamplesRead.{SamplesRead}
-use Rattle.strip_format.specs.Format.{Version, figures, gap}
+use Rattle.strip_format.specs.Format.{figures, gap}
 use Rattle.strip_lines.specs.Lines.{longest, recordLine}
 use Rattle.strip_lines.specs.Calls.{recordRefusal}
 use Rattle.strip_lines.specs.Laws.Ends.{record-line-fits, refusal-line-fits}
@@ -83,30 +83,30 @@ unfolding told
 told-most d h = either (d .more) (shown d h) (unchanged d) (shown-most d h) (none d)
 
 -- ---- what a block prints
-ran-most : (v : Version) (r : Run) (bytes : List ℕ) → length (ran v r bytes .lines) ≤ longest * length bytes
+ran-most : (r : Run) (bytes : List ℕ) → length (ran r bytes .lines) ≤ longest * length bytes
 unfolding ran
-ran-most v r [] = omega arith
-ran-most v r (b ∷ bs) =
-    let f = fed v (r .reader) b in
+ran-most r [] = omega arith
+ran-most r (b ∷ bs) =
+    let f = fed (r .reader) b in
     let first = told-most (r .desk) (f .got) in
-    let rest = ran-most v (record { reader = f .reader; desk = told (r .desk) (f .got) .desk }) bs in
+    let rest = ran-most (record { reader = f .reader; desk = told (r .desk) (f .got) .desk }) bs in
     rw length-append (omega arith)
 
 ended-most : (r : Run) → length (ended r .lines) ≤ longest
 unfolding ended
 ended-most r = told-most (r .desk) (finished (r .reader))
 
-taken-most : (v : Version) (r : Run) (block : List ℕ) (space : ℕ) → length block < space / longest → length (taken v r block .lines) ≤ space
+taken-most : (r : Run) (block : List ℕ) (space : ℕ) → length block < space / longest → length (taken r block .lines) ≤ space
 unfolding taken
-taken-most v r [] space h = omega (arith, ended-most r)
-taken-most v r (b ∷ bs) space h = omega (arith, ran-most v r (b ∷ bs))
+taken-most r [] space h = omega (arith, ended-most r)
+taken-most r (b ∷ bs) space h = omega (arith, ran-most r (b ∷ bs))
 
 -- What is told to be put is never more than the buffer has.
-pub taken-fits : (v : Version) (r : Run) (block : List ℕ) (space : ℕ) → takenOf v r block space .length ≤ space
+pub taken-fits : (r : Run) (block : List ℕ) (space : ℕ) → takenOf r block space .length ≤ space
 unfolding takenOf
-taken-fits v r block space = go (ltb (length block) (space / longest)) refl
+taken-fits r block space = go (ltb (length block) (space / longest)) refl
   where
     go : (b : Bool) → ltb (length block) (space / longest) ≡ b
-        → cond {A = Taken} b (record { reply = done; run = taken v r block .run; length = length (taken v r block .lines) }) (record { reply = noRoom; run = r; length = 0 }) .length ≤ space
-    go true t = taken-most v r block space (ltb-true (length block) (space / longest) t)
+        → cond {A = Taken} b (record { reply = done; run = taken r block .run; length = length (taken r block .lines) }) (record { reply = noRoom; run = r; length = 0 }) .length ≤ space
+    go true t = taken-most r block space (ltb-true (length block) (space / longest) t)
     go false t = omega arith

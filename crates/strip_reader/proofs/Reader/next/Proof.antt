@@ -13,7 +13,6 @@ use lib.Dec.{ltb}
 use lib.ListN.{length, getD, drop, drop-of-length-le}
 use lib.Seq.{drop-cons}
 use Rattle.lists.specs.Tests.{each-of}
-use Rattle.strip_format.specs.Format.{one}
 use Rattle.strip_reader.specs.Reader.{Handed, more, handed, isMore, Fed, stepOf, fed, Taken, nextOf, next}
 use Rattle.strip_reader.specs.Laws.Steps.{onward, onward-none, onward-byte, onward-over}
 use Rattle.strip_reader.specs.declared.Reader.{Reader}
@@ -23,7 +22,7 @@ use Rattle.strip_reader.proofs.Reader.next.Tie as tie
 
 abbrev Inv-loop : tie.InvT-loop
 Inv-loop block at reader₀ got₀ waits₀ i₀ reader got waits i =
-    (onward one waits (i - at) reader (handed got) (drop i block) ≡ next one reader₀ (drop at block)) × (at ≤ i) × (waits ≡ isMore (handed got))
+    (onward waits (i - at) reader (handed got) (drop i block) ≡ next reader₀ (drop at block)) × (at ≤ i) × (waits ≡ isMore (handed got))
 
 abbrev μ-loop : tie.MeasureT-loop
 μ-loop block at reader₀ got₀ waits₀ i₀ reader got waits i = length block - i
@@ -32,7 +31,7 @@ loop-holds : tie.Need-loop-holds Inv-loop μ-loop
 unfolding handed isMore
 loop-holds c =
     let a = c .before .args in
-    (rw (sub-self (a .at)) (onward-none one (a .self) more (drop (a .at) (a .block .now))), omega arith, refl)
+    (rw (sub-self (a .at)) (onward-none (a .self) more (drop (a .at) (a .block .now))), omega arith, refl)
 
 -- inside the loop there is a byte, and nothing came out yet
 inside : (i n : ℕ) (waits : Bool) → ltb i n && waits ≡ true → (i < n) × (waits ≡ true)
@@ -59,15 +58,15 @@ loop-less c =
 
 -- one byte more
 again : (block : List ℕ) (at i : ℕ) (r : Reader) (g : Handed) {waits waits′ : Bool} (s : Step) {whole : Taken} → i < length block → waits ≡ true → at ≤ i
-    → onward one waits (i - at) r g (drop i block) ≡ whole → stepOf s ≡ fed one r (getD block i 0) → waits′ ≡ isMore (handed (s .got))
-    → onward one waits′ (i + 1 - at) (s .reader) (handed (s .got)) (drop (i + 1) block) ≡ whole
+    → onward waits (i - at) r g (drop i block) ≡ whole → stepOf s ≡ fed r (getD block i 0) → waits′ ≡ isMore (handed (s .got))
+    → onward waits′ (i + 1 - at) (s .reader) (handed (s .got)) (drop (i + 1) block) ≡ whole
 unfolding stepOf
 again block at i r g s l w h e f m =
     let used : i + 1 - at ≡ i - at + 1 = omega arith in
     rw (m, used, add-one i)
-    (ap (λ (x : Fed). onward one (isMore (x .got)) (i - at + 1) (x .reader) (x .got) (drop (suc i) block)) f
-    ∙ sym (onward-byte one (i - at) r g (getD block i 0) (drop (suc i) block))
-    ∙ ap (onward one true (i - at) r g) (sym (drop-cons block i 0 l))
+    (ap (λ (x : Fed). onward (isMore (x .got)) (i - at + 1) (x .reader) (x .got) (drop (suc i) block)) f
+    ∙ sym (onward-byte (i - at) r g (getD block i 0) (drop (suc i) block))
+    ∙ ap (onward true (i - at) r g) (sym (drop-cons block i 0 l))
     ∙ (rw w at e))
 
 loop-again : tie.Need-loop-again Inv-loop μ-loop
@@ -87,11 +86,11 @@ sub-t14 c = omega arith
 
 -- where the loop ends, the block is used up or something came out
 over : (block : List ℕ) (i : ℕ) {used : ℕ} {r : Reader} (g : Handed) (waits : Bool) {whole : Taken} → ltb i (length block) && waits ≡ false → waits ≡ isMore g
-    → onward one waits used r g (drop i block) ≡ whole → record { reader = r; used = used; got = g } ≡ whole
+    → onward waits used r g (drop i block) ≡ whole → record { reader = r; used = used; got = g } ≡ whole
 unfolding onward
 over block i g true t m e =
     let past : length block ≤ i = ltb-false i (length block) (no-more (ltb i (length block)) t) in
-    sym (onward-over one true _ _ g m) ∙ rw (drop-of-length-le block past) at e
+    sym (onward-over true _ _ g m) ∙ rw (drop-of-length-le block past) at e
   where
     no-more : (b : Bool) → b && true ≡ false → b ≡ false
     no-more true h = h

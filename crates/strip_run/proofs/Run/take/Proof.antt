@@ -6,7 +6,6 @@ use native.Mathlib.Omega.{arith}
 use borrow.Author.Needs.{needs}
 use borrow.Author.Tests.{lt-ltb, le-ltb}
 use lib.ListN.{length, drop}
-use Rattle.strip_format.specs.Format.{one}
 use Rattle.strip_lines.specs.Lines.{longest}
 use Rattle.strip_run.specs.Run.{Ran, ran, ended, taken, takenOf, outOf}
 use Rattle.strip_run.specs.declared.Run.{Run}
@@ -28,20 +27,20 @@ same-length : tie.Need-same-length
 same-length c = search needs
 
 -- an empty block, and one that is not
-at-end : (r : Run) (block : List ℕ) → length block ≡ 0 → taken one r block ≡ ended r
+at-end : (r : Run) (block : List ℕ) → length block ≡ 0 → taken r block ≡ ended r
 unfolding taken
 at-end r [] h = refl
 at-end r (b ∷ bs) h = absurd (omega arith)
 
-in-bytes : (r : Run) (block : List ℕ) → (length block ≡ 0 → ⊥) → taken one r block ≡ ran one r block
+in-bytes : (r : Run) (block : List ℕ) → (length block ≡ 0 → ⊥) → taken r block ≡ ran r block
 unfolding taken
 in-bytes r [] h = absurd (h refl)
 in-bytes r (b ∷ bs) h = refl
 
 -- the answer of a block that has room
-answer-is : (r : Run) (block out : List ℕ) {x : Ran} {answer : Taken} {end : List ℕ} → length block < length out / longest → taken one r block ≡ x
+answer-is : (r : Run) (block out : List ℕ) {x : Ran} {answer : Taken} {end : List ℕ} → length block < length out / longest → taken r block ≡ x
     → answer ≡ record { reply = 0; run = x .run; length = length (x .lines) } → end ≡ x .lines ++ drop (length (x .lines)) out
-    → (answer ≡ takenOf one r block (length out)) × (end ≡ outOf one r block out)
+    → (answer ≡ takenOf r block (length out)) × (end ≡ outOf r block out)
 unfolding takenOf outOf
 answer-is r block out l e p q = (p ∙ rw (lt-ltb (length block) (length out / longest) l, e), q ∙ rw (lt-ltb (length block) (length out / longest) l, e))
 
@@ -65,7 +64,7 @@ returns-2 c =
 
 -- a buffer without room
 no-room : (r : Run) (block out : List ℕ) → length out / longest ≤ length block
-    → (record { reply = 8; run = r; length = 0 } ≡ takenOf one r block (length out)) × (out ≡ outOf one r block out)
+    → (record { reply = 8; run = r; length = 0 } ≡ takenOf r block (length out)) × (out ≡ outOf r block out)
 unfolding takenOf outOf
 no-room r block out l = (rw (le-ltb (length block) (length out / longest) l), rw (le-ltb (length block) (length out / longest) l))
 
