@@ -2,3 +2,4 @@
 pub mod Room
 pub mod Cutting
 pub mod Reply
+pub mod Versions

@@ -2,7 +2,7 @@
 use mathlib.Core.Path.{_≡_}
 use mathlib.Core.List.{List, [], _∷_, _++_}
 use Prim.Native.Nat.{ℕ}
-use lib.ListN.{length, replicate}
+use lib.ListN.{length, drop, replicate}
 use lib.Ieee.{Float, binary32, ofBits}
 use Rattle.units.specs.Replies.{done}
 use Rattle.units.specs.Settings.{usual}
@@ -14,8 +14,10 @@ use Rattle.saturation_protector.specs.Calls.{made}
 use Rattle.saturation_protector.specs.History.{Figures, heard}
 use Rattle.interpolated_gain_curve.specs.Gain.{identity, knee, limiter, saturation, pieceOf, onPiece}
 use Rattle.interpolated_gain_curve.specs.Curve.{fresh, looked}
-use Rattle.strip_format.specs.Format.{one}
+use Rattle.strip_format.specs.Format.{versionOf}
 use Rattle.strip_format.specs.Calls.{readHead}
+use Rattle.strip_format.specs.declared.Version.{Version}
+use Rattle.strip_format.specs.declared.Version.the-variants.{One, Two}
 use Rattle.strip_run.specs.Lines.{lines}
 
 -- a float by its bits
@@ -33,8 +35,8 @@ pub data Example : Type 0 where
   oldest : List Float → List Float → Example
   -- after so many speech frames a new protector's ring has so many items
   peaks : ℕ → ℕ → Example
-  -- these bytes are a head of this threshold, so many samples, and the Rust's default settings
-  heads : List ℕ → ℕ → ℕ → Example
+  -- these bytes are a head of this version and threshold, so many samples, and the Rust's default settings
+  heads : List ℕ → Version → ℕ → ℕ → Example
   -- this strip gives these lines
   prints : List ℕ → List ℕ → Example
 
@@ -49,7 +51,7 @@ numberOf (x ∷ xs) = 1
 
 -- what an example says
 unfoldable pub Holds : Example → Type 0
-unfolding looked fresh pieceOf onPiece answer frontedOf after-pushes-of emptyOf made heard itemsOf readHead usual lines
+unfolding looked fresh pieceOf onPiece answer frontedOf after-pushes-of emptyOf made heard itemsOf versionOf readHead usual lines
 Holds (gains level gain region) =
     (looked fresh level .reply ≡ done) × (looked fresh level .gain ≡ gain) × (looked fresh level .curve .region ≡ region)
 -- The gain alone does not tell the piece: at the last knot, 36575.03, pieces 30 and 31 give the same f32.
@@ -60,15 +62,25 @@ Holds (oldest pushes front) =
     fronted (after-pushes empty pushes) ≡ record { reply = done; front = record { number = numberOf front; values = front } }
 Holds (peaks frames pushed) =
     length (items (heard (made (float 0x41a0_0000) 2 .protector) (replicate frames reading) .preliminary .ring)) ≡ pushed
-Holds (heads bytes threshold samples) =
-    readHead one bytes ≡ record { reply = done; head = record { threshold = threshold; samples = samples; settings = usual } }
-Holds (prints strip printed) = lines one strip ≡ printed
+Holds (heads bytes version threshold samples) =
+    readHead (versionOf bytes) bytes ≡ record { reply = done; head = record { version = version; threshold = threshold; samples = samples; settings = usual } }
+Holds (prints strip printed) = lines strip ≡ printed
 
 -- ---- the strip
 -- "Head `00 18 01 02 01 E0 40 A0 00 00 42 48 00 00 41 70 00 00 40 C0 00 00 C2 48 00 00`"
 unfoldable pub head : List ℕ
 head =
     0x00 ∷ 0x18 ∷ 0x01 ∷ 0x02 ∷ 0x01 ∷ 0xe0 ∷ 0x40 ∷ 0xa0 ∷ 0x00 ∷ 0x00 ∷ 0x42 ∷ 0x48 ∷ 0x00 ∷ 0x00 ∷ 0x41 ∷ 0x70 ∷ 0x00 ∷ 0x00 ∷ 0x40 ∷ 0xc0 ∷ 0x00 ∷ 0x00 ∷ 0xc2 ∷ 0x48 ∷ 0x00 ∷ 0x00 ∷ []
+
+-- the same from the samples on, in version 2: "head length 25 and T in two bytes"
+unfoldable pub head-in-two : List ℕ
+unfolding head
+head-in-two = 0x00 ∷ 0x19 ∷ 0x02 ∷ 0x00 ∷ 0x02 ∷ drop 4 head
+
+-- and with a threshold of 3,000
+unfoldable pub head-of-3000 : List ℕ
+unfolding head
+head-of-3000 = 0x00 ∷ 0x19 ∷ 0x02 ∷ 0x0b ∷ 0xb8 ∷ drop 4 head
 
 -- "Five records, noise and envelope -90; probability, rms, peak: (0,-60,-60), (1,-10,-5), (0,-60,-60), (1,-40,0), (1,-40,0)"
 unfoldable pub records : List ℕ
@@ -92,7 +104,7 @@ printed =
 
 -- ---- the table
 unfoldable pub table : List Example
-unfolding head records printed
+unfolding head head-in-two head-of-3000 records printed
 table =
     -- "Curve 0: gain 1, identity. 30057.297: gain 1, knee. 33724.844: piece 20, limiter. 36575.03: piece 30. 65536: gain 0.5, saturation."
     gains (float 0x0000_0000) (float 0x3f80_0000) identity
@@ -113,6 +125,10 @@ table =
     ∷ peaks 40 0
     ∷ peaks 41 1
     -- "T 2, 480 samples, the Rust's default settings"; the five records, and the output
-    ∷ heads head 2 480
+    ∷ heads head One 2 480
     ∷ prints (head ++ records) printed
+    -- the same in version 2, and its largest threshold
+    ∷ heads head-in-two Two 2 480
+    ∷ heads head-of-3000 Two 3000 480
+    ∷ prints (head-in-two ++ records) printed
     ∷ []

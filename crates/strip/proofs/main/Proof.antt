@@ -4,7 +4,6 @@ use mathlib.Core.List.{List}
 use Prim.Native.Nat.{ℕ, _≤_}
 use native.Mathlib.Omega.{arith}
 use lib.Seq.{length-take-le}
-use Rattle.strip_format.specs.Format.{one}
 use Rattle.strip_run.specs.Run.{takenOf}
 use Rattle.strip_run.specs.Laws.Room.{taken-fits}
 use Rattle.strip_run.specs.declared.Run.{Run}
@@ -49,8 +48,8 @@ take-requires : tie.Need-take-requires Inv-loop μ-loop
 take-requires c κs = search needs
 
 -- the lines have room in the buffer
-fits : (r : Run) (block : List ℕ) (space : ℕ) (answer : Taken) → answer ≡ takenOf one r block space → answer .length ≤ space
-fits r block space answer e = rw e (taken-fits one r block space)
+fits : (r : Run) (block : List ℕ) (space : ℕ) (answer : Taken) → answer ≡ takenOf r block space → answer .length ≤ space
+fits r block space answer e = rw e (taken-fits r block space)
 
 array-share-prefix-out : tie.Need-array-share-prefix-out Inv-loop μ-loop
 array-share-prefix-out c =
