@@ -292,13 +292,10 @@ fn head_place(version: Version, strip: &[u8]) -> u32
     if THRESHOLD_AT <= strip.len() {
         let says = strip[VERSION_AT] as u32;
         let bytes = head_size(version);
-        let length = two_at(strip, 0);
+        let due = bytes - LENGTH_BYTES;
+        let length = two_at(strip, 0) as usize;
         let whole = floats::pick_u32(bytes <= strip.len(), DONE, CUT);
-        let after_version = floats::pick_u32(
-            length as usize == bytes - LENGTH_BYTES,
-            whole,
-            LENGTH,
-        );
+        let after_version = floats::pick_u32(length == due, whole, LENGTH);
         floats::pick_u32(says == number(version), after_version, VERSION)
     } else {
         CUT

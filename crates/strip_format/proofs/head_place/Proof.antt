@@ -25,17 +25,17 @@ cast-says c = omega (arith, c .shared-slice-known2 .given 2)
 head-size-requires : tie.Need-head-size-requires
 head-size-requires c κs = tt
 
+sub-due : tie.Need-sub-due
+sub-due c = omega arith
+
 two-at-requires : tie.Need-two-at-requires
 two-at-requires c κs = omega arith
 
+cast-length : tie.Need-cast-length
+cast-length c = omega arith
+
 pick-u32-requires : tie.Need-pick-u32-requires
 pick-u32-requires c κs = tt
-
-cast-pick-u32 : tie.Need-cast-pick-u32
-cast-pick-u32 c = omega arith
-
-sub-pick-u32 : tie.Need-sub-pick-u32
-sub-pick-u32 c = omega arith
 
 pick-u32-requires-2 : tie.Need-pick-u32-requires-2
 pick-u32-requires-2 c κs = tt
@@ -78,10 +78,10 @@ head-place-spec =
     shared-slice-read-says
     cast-says
     head-size-requires
+    sub-due
     two-at-requires
+    cast-length
     pick-u32-requires
-    cast-pick-u32
-    sub-pick-u32
     pick-u32-requires-2
     number-requires
     pick-u32-requires-3
