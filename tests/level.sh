@@ -3,6 +3,8 @@
 # a toolchain that refuses, a locale that is not there.
 cd "$(dirname "$0")/.." || exit 1
 . tests/check.bash
+# Python starts more than fifty times: the one that is found, without a wrapper in front of it.
+PATH=$(dirname "$(python3 -c 'import os, sys; print(os.path.realpath(sys.executable))')"):$PATH
 room=$(mktemp -d)
 small=$room/small
 trap 'umount "$small" 2>/dev/null; rm -rf "$room"' EXIT
@@ -66,8 +68,8 @@ told "a strip that is missing" "--strip wants a file" recording --strip
 told "the meter's words beside a strip" "--threshold is the meter's, and the strip has the figures already" \
     recording --threshold 5 --strip examples/service.strip "$room/in.wav" "$room/out.wav"
 told "a word of the meter that is no number" "--noise wants a number, and 'loud' is none" recording --noise loud "$room/in.wav" "$room/out.wav"
-run recording --threshold 201 "$room/in.wav" "$room/out.wav"
-same "level: a word of the meter that is out of its range" "2 meter: --threshold 201 is not a whole number from 1 to 200" "$ended $(cat "$room/err")"
+run recording --threshold 3001 "$room/in.wav" "$room/out.wav"
+same "level: a word of the meter that is out of its range" "2 meter: --threshold 3001 is not a whole number from 1 to 3000" "$ended $(cat "$room/err")"
 told "a word that is none" "'--loud' is no word of ./level recording" recording --loud "$room/in.wav" "$room/out.wav"
 
 # ---- nothing is lost in silence
@@ -140,18 +142,53 @@ done
 # ---- refusals in words
 run strip README.md
 same "level: a text in place of a strip: status 1, and its line" "1 0 R 7" "$ended $(cat "$room/got")"
-same "level: a text in place of a strip: in words" "level: the strip is refused with 7: it does not begin as a strip of version 1 does: it is no strip, or one for another box" "$(cat "$room/err")"
+same "level: a text in place of a strip: in words" "level: the strip is refused with 7: it does not begin as a strip of version 1 or 2 does: it is no strip, or one for another box" "$(cat "$room/err")"
+# Of the strips of tests/strips one for each record and reply with which they are refused, and one that is not.
 : >"$room/due" && : >"$room/said"
+declare -A tried=()
 for strip in tests/strips/*.strip; do
+    refused=$(sed -n 's/^\([0-9]*\) R /\1 /p' "${strip%.strip}.lines")
+    [ -z "${tried[_$refused]-}" ] || continue
+    tried[_$refused]=yes
     run strip "$strip"
-    refused=$(sed -n 's/^[0-9]* R //p' "tests/strips/$(basename "$strip" .strip).lines")
-    echo "$strip $((${refused:-0} > 0)) $refused" >>"$room/due"
+    echo "$strip $((${#refused} > 0)) ${refused#* }" >>"$room/due"
     echo "$strip $ended $(sed -n 's/^level: the strip is refused with \([0-9]\): ..*/\1/p' "$room/err")" >>"$room/said"
 done
-same_file "level: each strip of tests/strips: status 1 and words where it is refused, and only there" "$room/due" "$room/said"
+same_file "level: a strip of each kind: status 1 and words where it is refused, and only there" "$room/due" "$room/said"
+same "level: a strip of each kind: so many have no refusal, and all replies are there" "1 1 2 4 5 6 7" \
+    "$(grep -c ' 0 $' "$room/said") $(sed -n 's/.* 1 //p' "$room/said" | sort -u | paste -sd' ')"
+# A strip of each version whose threshold is too large for it, and one whose length is that of the other version.
+in_words() { # NAME REPLY WORDS DIGITS: what a refusal of these bytes says; the settings follow them
+    { printf '%b' "$4" && head -c 26 $service | tail -c 22; } >"$room/wrong.strip"
+    run strip "$room/wrong.strip"
+    same "level: $1" "1 0 R $2, level: the strip is refused with $2: $3" "$ended $(cat "$room/got"), $(cat "$room/err")"
+}
+too_large="a setting is out of its range, or the threshold is not 1 to 3000 (in a strip of version 1: 1 to 200)"
+in_words "version 1 and a threshold of 201" 4 "$too_large" '\x00\x18\x01\xc9'
+in_words "version 2 and a threshold of 3001" 4 "$too_large" '\x00\x19\x02\x0b\xb9'
+in_words "version 2 and the length of version 1" 6 \
+    "the length of its head is not its version's, or that of a record is wrong: it is damaged, or no strip" '\x00\x18\x02\x0c'
 for reply in 1 2 4 5 6 7; do
     same "level: reply $reply is on README's card, and has words here" "1 1" "$(grep -c "^| $reply |" README.md) $(grep -c "^    $reply) echo" level)"
 done
+
+# ---- a strip of version 2
+# The twin of a strip of version 1: the length 25, the version 2, and the threshold in two bytes.
+twin() { printf '\x00\x19\x02\x00' && tail -c +4 "$1"; } # STRIP
+twin $service >"$room/two.strip"
+run strip "$room/two.strip"
+same "level: the service as a strip of version 2: status 0" 0 "$ended"
+same_file "level: the service as a strip of version 2: the lines are the same" examples/service.lines "$room/got"
+# Thirty seconds: a run of 2999 frames, which a pause ends, and one of 3001. The level starts at -20 - 15 - 5 dBFS.
+speech="1 -50 -40 -80 -60"
+{ echo "head threshold 3000 samples 40" && yes "$speech" | head -n 2999 && echo "0 -70 -60 -80 -60" && yes "$speech" | head -n 3001; } |
+    tools/strip-maker to-strip >"$room/3000.strip"
+run strip "$room/3000.strip"
+same "level: with a threshold of 3000 speech counts from its 3000th frame on" "0 2999 W 1 N 2999 W 2 P" \
+    "$ended $(cut -d' ' -f2 "$room/got" | uniq -c | tr -s ' \n' ' ' | sed 's/^ //; s/ $//')"
+same "level: until then what stood before is published" "-4000 2000 1500 0" "$(head -n 5999 "$room/got" | cut -d' ' -f3- | sort -u)"
+same "level: and from then on a level of -50 dBFS, within a tenth, which is trusted" "2 yes" \
+    "$(tail -n 2 "$room/got" | awk '$3 > -5010 && $3 < -4990 && $6 == 1 { good++ } END { print NR, good == NR ? "yes" : "no" }')"
 
 # ---- a recording, in each of its forms
 levelled() { # NAME: out.wav is whole, and the sound of both readers is nearer than it was
@@ -196,6 +233,18 @@ run recording "$room/my.strip" <examples/two-readers.wav
 same_file "level: STRIP < in.wav > out.wav: the same recording" "$room/due.wav" "$room/got"
 run recording <(cat "$room/my.strip") <examples/two-readers.wav
 same_file "level: <(..) as the strip: the same recording" "$room/due.wav" "$room/got"
+twin "$room/my.strip" >"$room/two.strip"
+rm "$room/strip.wav"
+run recording --strip "$room/two.strip" examples/two-readers.wav "$room/strip.wav"
+same "level: a strip of version 2: status 0, and nothing is told" "0 0" "$ended $(lines)"
+same_file "level: a strip of version 2: the same recording" "$room/due.wav" "$room/strip.wav"
+# Nobody reads for thirty seconds without a pause, so nothing counts: it is levelled as if nobody read.
+tools/meter --no-progress <examples/two-readers.wav 2>/dev/null | sed 's/^0\.95/0.05/' | tools/strip-maker to-strip >"$room/nobody.strip"
+run recording --strip "$room/nobody.strip" examples/two-readers.wav "$room/nobody.wav"
+rm "$room/out.wav"
+run recording --threshold 3000 examples/two-readers.wav "$room/out.wav"
+same "level: --threshold 3000: status 0, and another recording" "0 no" "$ended $(yes_no cmp "$room/due.wav" "$room/out.wav")"
+same_file "level: --threshold 3000: no reading is long enough to count" "$room/nobody.wav" "$room/out.wav"
 run recording --threshold 1 --noise -60 examples/two-readers.wav "$room/out.wav"
 same "level: the meter's words: status 0, and another recording" "0 no" "$ended $(yes_no cmp "$room/due.wav" "$room/out.wav")"
 (cd "$room" && "$OLDPWD/level" recording in.wav here.wav) 2>/dev/null
@@ -211,7 +260,7 @@ run recording --strip "$service" examples/two-readers.wav "$room/out.wav"
 same "level: a strip of another rate: status 1" 1 "$ended"
 same "level: a strip of another rate: what stood there stays" kept "$(cat "$room/out.wav")"
 run recording --strip README.md examples/two-readers.wav "$room/out.wav"
-same "level: a text as the strip: status 1, in words" "1 level: the strip is refused with 7: it does not begin as a strip of version 1 does: it is no strip, or one for another box" \
+same "level: a text as the strip: status 1, in words" "1 level: the strip is refused with 7: it does not begin as a strip of version 1 or 2 does: it is no strip, or one for another box" \
     "$ended $(tail -n 1 "$room/err")"
 
 # ---- README's commands, as they stand there, in a folder that has what a clone has

@@ -30,6 +30,10 @@ same "test-c takes a strip and its lines, from the folder it is called in" "0 0"
 tr 0-4 5-9 <examples/service.lines >"$room/other.lines"
 library/build --run test-c examples/service.strip "$room/other.lines" >"$room/said" 2>&1
 same "and with other lines it fails" "1 1" "$? $(grep -c '^not ok' "$room/said")"
+# The same service as a strip of version 2: the length 25, the version 2, and the threshold in two bytes.
+{ printf '\x00\x19\x02\x00' && tail -c +4 examples/service.strip; } >"$room/two.strip"
+library/build --run test-c "$room/two.strip" examples/service.lines >"$room/said" 2>&1
+same "test-c takes a strip of version 2" "0 0" "$? $(grep -c '^not ok' "$room/said")"
 
 # The words are judged before anything is built: a script stands in for rt, in a copy where nothing is.
 mkdir -p "$room/copy" "$room/bin"
@@ -146,6 +150,8 @@ for tests in test-rust test-crate; do
 done
 MURZICANU_LINES=$room/other.lines library/build --run test-rust a_service >"$room/rust" 2>&1
 same "the library from Rust: with other lines, which a variable names, its service fails" "101 1" "$? $(grep -c '_due \.\.\. FAILED$' "$room/rust")"
+MURZICANU_STRIP=$room/two.strip library/build --run test-rust a_service >"$room/rust" 2>&1
+same "the library from Rust: the service as a strip of version 2" "0 1" "$? $(grep -c '_due \.\.\. ok$' "$room/rust")"
 
 # The two examples of the whole box are the same service, so they tell the same gain.
 library/build --run level-c >"$room/c"

@@ -6,12 +6,13 @@ if [ ! -f target/bin/recording ]; then
     echo "not ok meter: the program is built"
     exit 1
 fi
-# Python starts some two hundred times: the one that is found, without a wrapper in front of it.
+# Python starts some two hundred times: the one that is found, without a wrapper in front of it or what a site has added to it.
 PATH=$(dirname "$(python3 -c 'import os, sys; print(os.path.realpath(sys.executable))')"):$PATH
 room=$(mktemp -d)
 trap 'umount "$room/disk" 2>/dev/null; rm -rf "$room"' EXIT
 
-wav() { tests/wav-maker "$@"; }
+python() { python3 -I -S "$@"; }
+wav() { python tests/wav-maker "$@"; }
 # A WAV file whose samples are standard input, so many bytes of it.
 with_head() { # BYTES WORDS..
     wav --samples 0 --size "$1" "${@:2}"
@@ -20,7 +21,7 @@ with_head() { # BYTES WORDS..
 # Sounds at 16 kHz, one after the other, over the noise of a room: each is what it is, how loud in dBFS, and its frames.
 #   room: the room alone   reader: someone who reads, with short gaps and now and then a pause   cough: noise
 sounds() { # ROOM-AMPLITUDE SOUND..
-    python3 - "$@" <<'SOUNDS'
+    python - "$@" <<'SOUNDS'
 import math, random, struct, sys
 
 room = int(sys.argv[1])
@@ -67,7 +68,7 @@ some() { [ "$2" = 0 ] || printf "$1%.0s" $(seq "$2"); }
 run() { tests/run-program recording 3>"$room/answer"; }
 records() { # NAME ANSWER TOLD: the file is standard input
     cat >"$room/in.wav"
-    tests/metering <"$room/in.wav" >"$room/due"
+    python tests/metering <"$room/in.wav" >"$room/due"
     run <"$room/in.wav" >"$room/got" 2>"$room/err"
     same_file "metering: $1" "$room/due" "$room/got"
     same "metering: $1: what is told" "answer '$2', $3" "answer '$(cat "$room/answer")', $(cat "$room/err")"
@@ -82,10 +83,10 @@ records "no sample" 0 "" < <(wav --samples 0)
 records "one sample" 0 "" < <(wav --samples 1 --last -1 --channels 2)
 records "-32768 at the end of each channel" 0 "" < <(wav --channels 3 --samples 500 --last -32768)
 records "32767 at the end of each channel" 0 "" < <(wav --channels 3 --samples 500 --last 32767)
-with_head 1920 --channels 2 < <(python3 -c 'import sys; sys.stdout.buffer.write(b"\0\x80" * 960)') >"$room/lowest.wav"
+with_head 1920 --channels 2 < <(python -c 'import sys; sys.stdout.buffer.write(b"\0\x80" * 960)') >"$room/lowest.wav"
 records "-32768 all the way" 0 "" <"$room/lowest.wav"
 same "metering: -32768 all the way: 480 squares of it, and 32768" "480 2 1920 515396075520 32768" \
-    "$(run <"$room/lowest.wav" | python3 -c 'import struct, sys; print(*struct.unpack("<IIIQI", sys.stdin.buffer.read()))')"
+    "$(run <"$room/lowest.wav" | python -c 'import struct, sys; print(*struct.unpack("<IIIQI", sys.stdin.buffer.read()))')"
 records "an extended format, and a chunk of odd size before the samples" 0 "" < <(wav --samples 1000 --extended --odd-list)
 records "chunks after the samples" 0 "" < <(wav --samples 1000 --late)
 records "a size that is no whole number of samples" 0 "" < <(wav --samples 1000 --channels 2 --size 3999)
@@ -97,7 +98,7 @@ records "a file that is cut before its samples" "" "$cut 9600 bytes of its sampl
 
 # ---- the figures
 # A tone at half of full scale has its peak at -6.02 dBFS and its rms at -9.03; silence is at -90.
-python3 -c 'import math, struct, sys
+python -c 'import math, struct, sys
 sys.stdout.buffer.write(b"".join(struct.pack("<h", round(16384 * math.sin(math.pi * i / 24)) if 480 <= i < 960 else 0) for i in range(1060)))' |
     with_head 2120 >"$room/tone.wav"
 head_and() { printf 'head threshold 12 samples 480\n# probability rms peak noise envelope\n'; cat; }
@@ -112,10 +113,16 @@ same "meter: how much is speech is told at the end" "meter: 1 of 3 frames are sp
 same "meter: a level above which it is speech, noise and envelope that are held, a threshold" \
     "head threshold 7 samples 480 0.05 -90.00 -90.00 -70.00 -30.00 0.05 -9.03 -6.02 -70.00 -30.00" \
     "$(tools/meter --speech-above -9 --noise=-70 --envelope -30 --threshold 7 <"$room/tone.wav" 2>/dev/null | grep -v '^#' | head -n 3 | paste -sd' ')"
+# The strip that is made of it: of version 1 with a threshold of 1 to 200, and of version 2 with more.
+for both in 1:00180101 200:001801c8 201:00190200c9 3000:0019020bb8; do
+    due=${both#*:}01e040a00000424800004170000040c00000c2480000
+    strip=$(tools/meter --threshold "${both%:*}" <"$room/tone.wav" 2>/dev/null | tools/strip-maker to-strip | od -An -v -tx1 | tr -d ' \n')
+    same "meter: the head of the strip with --threshold ${both%:*}, and the bytes behind it" "$due 66" "${strip::${#due}} $(((${#strip} - ${#due}) / 2))"
+done
 tools/meter <"$room/lowest.wav" 2>/dev/null | sed -n '3p' >"$room/got"
 same "meter: full scale is 0 dBFS" "0.05 0.00 0.00 0.00 0.00" "$(cat "$room/got")"
 same "meter: of two channels the louder counts" "0.05 -6.02 -6.02 -6.02 -6.02" \
-    "$(python3 -c 'import sys; sys.stdout.buffer.write(b"\0\0\0\x40" * 480)' | with_head 1920 --channels 2 | tools/meter 2>/dev/null | sed -n 3p)"
+    "$(python -c 'import sys; sys.stdout.buffer.write(b"\0\0\0\x40" * 480)' | with_head 1920 --channels 2 | tools/meter 2>/dev/null | sed -n 3p)"
 # What stands out of the noise is speech, however quiet it is. The room is at -75 dBFS, and at -60.
 for loud in -20 -35 -50; do
     for amplitude in 6 33; do
@@ -134,9 +141,9 @@ same "meter: with --speech-above nothing but the level counts" "$(some . 100)$(s
 same "meter: where the noise is given, speech stands out of that" "$(some . 100)$(some s 50)" "$(sounds 33 room,0,100 cough,-52,50 | speech --noise -61)"
 same "meter: and not what stands out of the noise that is there" "$(some . 150)" "$(sounds 6 room,0,100 cough,-52,50 | speech --noise -55)"
 same "meter: noise at -90 dBFS after digital silence is no speech" "$(some . 60)" \
-    "$(python3 -c 'import sys; sys.stdout.buffer.write(bytes(28800) + b"\1\0\xff\xff" * 7200)' | with_head 57600 | speech)"
+    "$(python -c 'import sys; sys.stdout.buffer.write(bytes(28800) + b"\1\0\xff\xff" * 7200)' | with_head 57600 | speech)"
 same "meter: nor is a room at -70 dBFS" "$(some . 60)" \
-    "$(python3 -c 'import sys; sys.stdout.buffer.write(bytes(28800) + b"\12\0\xf6\xff" * 7200)' | with_head 57600 | speech)"
+    "$(python -c 'import sys; sys.stdout.buffer.write(bytes(28800) + b"\12\0\xf6\xff" * 7200)' | with_head 57600 | speech)"
 # A noise that stays is the room's: after three seconds it is taken for that, 3 dB a second, and less noise at once.
 sounds 6 room,0,200 cough,-40,2000 room,0,100 | tools/meter --no-progress 2>/dev/null | sed 1,2d | cut -d' ' -f4 >"$room/noise"
 same "meter: the noise of a room that gets louder: before it, after 3 s, after 4 s, at last" "-74.8 -74.8 -71.8 -40.0" \
@@ -155,7 +162,7 @@ sounds 6 room,0,100 reader,-20,1500 room,0,50 reader,-48,2500 >"$room/two.wav"
 tools/meter --no-progress <"$room/two.wav" 2>/dev/null | tools/strip-maker to-strip >"$room/two.strip"
 ./level recording "$room/two.strip" <"$room/two.wav" >"$room/two.levelled.wav" 2>"$room/err"
 apart() { # FILE: by how many dB the quiet reader lies below the loud one, in the last ten seconds of each
-    python3 - "$1" <<'APART'
+    python - "$1" <<'APART'
 import math, struct, sys
 
 sound = open(sys.argv[1], "rb").read()[44:]
@@ -224,7 +231,7 @@ same "meter: and the rest" "19244 " "$(wc -c <"$room/got") $(cat "$room/err")"
 
 # ---- an hour of stereo
 cost() { # COMMAND..: the seconds of a processor that it takes, and the megabytes
-    python3 -c 'import os, sys
+    python -c 'import os, sys
 process = os.posix_spawnp(sys.argv[1], sys.argv[1:], os.environ)
 _, status, used = os.wait4(process, 0)
 print(status, round(used.ru_utime + used.ru_stime), used.ru_maxrss // 1024, file=open("/dev/fd/5", "w"))' "$@" 5>"$room/cost"
@@ -314,7 +321,7 @@ word() { # TOLD WORDS..
     same "meter: '${*:2}'" "2 meter: $1, $(wc -c <"$room/in.wav") bytes left, 0 written" \
         "$(cat "$room/status") $(cat "$room/err"), $(cat "$room/left") bytes left, $(wc -c <"$room/got") written"
 }
-for n in 0 201 2.5 1_0 twelve "" ٣; do word "--threshold $n is not a whole number from 1 to 200" --threshold "$n"; done
+for n in 0 3001 2.5 1_0 twelve "" ٣; do word "--threshold $n is not a whole number from 1 to 3000" --threshold "$n"; done
 word "--threshold 0,5: write 0.5, with a point" --threshold 0,5
 for n in nan -inf 1_0 loud 1e999 -151 ""; do word "--noise $n is not a number from -150 to 50" --noise "$n"; done
 word "--noise -66,5: write -66.5, with a point" --noise -66,5

@@ -7,18 +7,23 @@ if [ ! -f target/bin/recording ]; then
     exit 1
 fi
 room=$(mktemp -d)
-trap 'rm -rf "$room"' EXIT
+trap 'rm -rf "$room" "${hours-}"' EXIT
 
-wav() { tests/wav-maker "$@"; }
+# Python starts some two hundred times: the one that is found, without a wrapper in front of it or what a site has added to it.
+PATH=$(dirname "$(python3 -c 'import os, sys; print(os.path.realpath(sys.executable))')"):$PATH
+python() { python3 -I -S "$@"; }
+wav() { python tests/wav-maker "$@"; }
 # A strip of so many records for channels of so many samples.
 strip() { # RECORDS SAMPLES
     { echo "head threshold 4 samples $2" && yes "0.9 -30 -20 -60 -40" | head -n "$1"; } | tools/strip-maker to-strip
 }
 # A strip that changes nothing: it begins without gain, and no frame of it is speech. A sound that stays below the limiter
 # comes out as it went in, byte for byte; and the head of a file that tests/wav-maker makes is the one that is written.
-flat() { # RECORDS SAMPLES
-    { echo "head threshold 4 samples $2 initial-gain 0" && yes "0 -60 -60 -60 -60" | head -n "$1"; } | tools/strip-maker to-strip
+flat() { # RECORDS SAMPLES [THRESHOLD]
+    { echo "head threshold ${3:-4} samples $2 initial-gain 0" && yes "0 -60 -60 -60 -60" | head -n "$1"; } | tools/strip-maker to-strip
 }
+# The twin of a strip of version 1: the length 25, the version 2, and the threshold in two bytes.
+twin() { printf '\x00\x19\x02\x00' && tail -c +4 "$1"; } # STRIP
 run() { tests/run-program recording "$@"; }
 # Runs it on standard input, and keeps what it writes, what it tells, and what it says at the end on descriptor 3.
 kept() { run "$@" >"$room/got" 2>"$room/err" 3>"$room/end"; }
@@ -32,6 +37,7 @@ line_of() { # LINE
 }
 for samples in 40 160 480; do strip 10 "$samples" >"$room/$samples.strip"; done
 for samples in 80 480; do flat 10 "$samples" >"$room/$samples.flat"; done
+twin "$room/480.strip" >"$room/480.two"
 
 # The stored WAV file is of the maker, has a LIST chunk of odd size before the samples and a short last frame; rt has
 # run the program on it.
@@ -68,6 +74,17 @@ done
 refuses "a folder in place of the strip" "the strip: Is a directory" "$room" <"$good"
 refuses "a strip that is cut in its head" "0 R 5" <(head -c 20 "$room/480.strip") <"$good"
 refuses "a strip of another version" "0 R 7" "$good" <"$good"
+refuses "a strip of version 3" "0 R 7" <(printf '\x00\x19\x03'; tail -c +4 "$room/480.two") <"$good"
+refuses "a strip of version 2 with the length of version 1" "0 R 6" <(printf '\x00\x18'; tail -c +3 "$room/480.two") <"$good"
+refuses "a strip of version 1 with the length of version 2" "0 R 6" <(printf '\x00\x19'; tail -c +3 "$room/480.strip") <"$good"
+refuses "a strip of version 2 that is cut in its head" "0 R 5" <(head -c 26 "$room/480.two") <"$good"
+refuses "a strip of version 2 with 20 samples" "0 R 1" <(head -c 5 "$room/480.two"; printf '\x00\x14'; tail -c +8 "$room/480.two") <"$good"
+for threshold in '\x00\x00' '\x0b\xb9' '\xff\xff'; do
+    refuses "a strip of version 2 with the threshold $threshold" "0 R 4" <(head -c 3 "$room/480.two"; printf "$threshold"; tail -c +6 "$room/480.two") <"$good"
+done
+for threshold in '\x00' '\xc9' '\xff'; do
+    refuses "a strip of version 1 with the threshold $threshold" "0 R 4" <(head -c 3 "$room/480.strip"; printf "$threshold"; tail -c +5 "$room/480.strip") <"$good"
+done
 refuses "a text, and a strip of another version: the sound comes first" "not a WAV file" "$good" <README.md
 refuses "an empty input" "not a WAV file" "$room/480.strip" </dev/null
 refuses "a text" "not a WAV file" "$room/480.strip" <README.md
@@ -114,6 +131,12 @@ stops "a record of a wrong length" "3 R 6" 1920 \
     <(head -c 70 "$room/480.strip"; printf '\0\x15'; tail -c +73 "$room/480.strip") <"$good"
 stops "a record whose figure is no number" "1 R 2" 0 \
     <(head -c 28 "$room/480.strip"; printf '\x7f\xc0\0\0'; tail -c +33 "$room/480.strip") <"$good"
+# The records of version 2 are those of version 1, one byte further on.
+stops "version 2: a strip that is too short" "the strip ends before the recording, which goes on with frame 11" 9600 "$room/480.two" < <(wav --samples 4801)
+stops "version 2: a record that is cut" "10 R 5" 8640 <(head -c 241 "$room/480.two") <"$good"
+stops "version 2: a record of length 0" "3 R 6" 1920 <(head -c 71 "$room/480.two"; printf '\0\0'; tail -c +72 "$room/480.two") <"$good"
+stops "version 2: a record whose figure is no number" "1 R 2" 0 \
+    <(head -c 29 "$room/480.two"; printf '\x7f\xc0\0\0'; tail -c +34 "$room/480.two") <"$good"
 
 # However the file says what it is: the samples come out the same. With the flat strip they are those that went in.
 levels() { # NAME DUE STRIP: the file is standard input, nothing is told, and DUE is what is written
@@ -142,6 +165,10 @@ pieces() { # FILE PLACES..: the file, cut at these places, one piece after the o
 }
 alike "a file that comes in pieces" < <(pieces "$good" 1 3 9 5003)
 levels "a strip that comes in pieces" "$good" <(pieces "$room/480.flat" 1 2 5 26 27 70) <"$good"
+levels "a strip of version 2" "$good" <(twin "$room/480.flat") <"$good"
+twin "$room/480.flat" >"$room/480.flat-two"
+levels "a strip of version 2 that comes in pieces" "$good" <(pieces "$room/480.flat-two" 2 3 4 5 26 27 28 71) <"$good"
+levels "a strip of version 2 with a threshold of 3000" "$good" <(flat 10 480 3000) <"$good"
 levels "a size that is no whole number of samples: the whole ones" "$good" "$room/480.flat" < <(wav --samples 4800 --size 9601)
 for channels in 1 2 3 8; do
     wav --rate 8000 --channels $channels --samples 793 --seed $channels --loud 20000 >"$room/in.wav"
@@ -155,7 +182,7 @@ wav --channels 8 --samples 4800 --extended --mask 0x63f >"$room/8.wav"
 levels "8 channels with a mask: every byte as it was" "$room/8.wav" "$room/480.flat" <"$room/8.wav"
 same "recording: 8 channels with a mask: the head" \
     "RIFF 3c2c0100 WAVEfmt  28000000 feff 0800 80bb0000 00b80b00 1000 1000 1600 1000 3f060000 0100000000001000800000aa00389b71 data 002c0100" \
-    "$(python3 - "$room/got" <<'HEAD'
+    "$(python - "$room/got" <<'HEAD'
 import sys
 head = open(sys.argv[1], "rb").read(68)
 at, words = 0, []
@@ -185,10 +212,17 @@ levels "8 channels without a mask come out plain" "$room/plain.wav" "$room/480.f
 # is known but the two that programs write to a pipe.
 said() { od -An -tu4 -j "$1" -N 4 "$2" | tr -d ' '; }
 sizes() { echo "$(said $((${2:-44} - 4)) "$1") $(said 4 "$1")"; } # FILE [BYTES-OF-THE-HEAD]
-sized() { # SIZE SIZE-THAT-IS-WRITTEN SIZE-OF-ALL TOLD [BYTES-OF-THE-HEAD WORDS..]
+# A file with another size of its samples in its head.
+resized() { # FILE SIZE [BYTES-OF-THE-HEAD]
+    head -c $((${3:-44} - 4)) "$1"
+    printf "$(printf '\\x%02x' $(($2 & 255)) $(($2 >> 8 & 255)) $(($2 >> 16 & 255)) $(($2 >> 24)))"
+    tail -c +$((${3:-44} + 1)) "$1"
+}
+wav --samples 4800 --extended --mask 4 >"$room/good.68"
+ln -s "$good" "$room/good.44"
+sized() { # SIZE SIZE-THAT-IS-WRITTEN SIZE-OF-ALL TOLD [BYTES-OF-THE-HEAD]
     local size=$1 due="$2 $3" told=$4 head=${5-44}
-    shift 4
-    kept "$room/480.flat" < <(wav --samples 4800 --size "$size" "${@:2}")
+    kept "$room/480.flat" < <(resized "$room/good.$head" "$size" "$head")
     same "recording: samples of $size bytes behind $head: what is told, and said at the end" "$told $(end_of "$told")" "$(cat "$room/err") $(cat "$room/end")"
     same "recording: samples of $size bytes behind $head: the sizes in the head" "$due" "$(sizes "$room/got" "$head")"
     same_file "recording: samples of $size bytes behind $head: those that came" <(tail -c +45 "$good") <(tail -c +$((head + 1)) "$room/got")
@@ -203,30 +237,30 @@ done
 for size in 2147418111 2147479551 2147479553 2147483647 4294967259 4294967293; do
     sized $size $((size - 1)) $((size - 1 < 4294967259 ? size + 35 : 4294967295)) "$(missing $((size - 9601)))"
 done
-sized 9602 9602 9662 "$(missing 2)" 68 --extended --mask 4
+sized 9602 9602 9662 "$(missing 2)" 68
 for size in 2147483646 4294967234 4294967236 4294967258 4294967294; do
-    sized $size $size $((size < 4294967235 ? size + 60 : 4294967295)) "$(missing $((size - 9600)))" 68 --extended --mask 4
+    sized $size $size $((size < 4294967235 ? size + 60 : 4294967295)) "$(missing $((size - 9600)))" 68
 done
 # What sox and ffmpeg write to a pipe.
 sized 2147479552 2147479552 2147479588 ""
 sized 4294967295 4294967295 4294967295 ""
-sized 2147479552 2147479552 2147479612 "" 68 --extended --mask 4
-sized 4294967295 4294967295 4294967295 "" 68 --extended --mask 4
+sized 2147479552 2147479552 2147479612 "" 68
+sized 4294967295 4294967295 4294967295 "" 68
 # sox writes whole groups: of these channels so many bytes. Two bytes, or a group, more or fewer are known.
-piped() { # CHANNELS SIZE SIZE-THAT-IS-WRITTEN TOLD
-    wav --rate 8000 --channels "$1" --samples 800 >"$room/in.wav"
-    kept "$room/80.flat" < <(wav --rate 8000 --channels "$1" --samples 800 --size "$2")
+piped() { # CHANNELS SIZE SIZE-THAT-IS-WRITTEN TOLD: of in.wav
+    kept "$room/80.flat" < <(resized "$room/in.wav" "$2")
     same "recording: $1 channels of $2 bytes: what is told, and said at the end" "$4 $(end_of "$4")" "$(cat "$room/err") $(cat "$room/end")"
     same "recording: $1 channels of $2 bytes: the size in the head" "$3" "$(said 40 "$room/got")"
     same_file "recording: $1 channels of $2 bytes: those that came" <(tail -c +45 "$room/in.wav") <(tail -c +45 "$room/got")
 }
 for both in "1 2147479552" "2 2147479552" "3 2147479548" "4 2147479552" "5 2147479550" "6 2147479548" "7 2147479544" "8 2147479552"; do
     read -r channels size <<<"$both"
+    wav --rate 8000 --channels "$channels" --samples 800 >"$room/in.wav"
     piped "$channels" "$size" "$size" ""
     piped "$channels" $((size - 2 * channels)) $((size - 2 * channels)) "$(missing $((size - 2 * channels - 1600 * channels)))"
     piped "$channels" $((size + 2 * channels)) $((size + 2 * channels)) "$(missing $((size + 2 * channels - 1600 * channels)))"
+    [ "$channels" != 3 ] || piped 3 2147479552 2147479548 "$(missing $((2147479548 - 4800)))"
 done
-piped 3 2147479552 2147479548 "$(missing $((2147479548 - 4800)))"
 
 # A file that says that it has no samples, and goes on behind them.
 none="recording: the WAV file says that it has no samples, and goes on behind them: was its head never put right? (sox --ignore-length reads such a file)"
@@ -259,23 +293,27 @@ for bytes in 1 2 3; do
     half "a stereo file whose size is $bytes bytes short" 3172 "" < <(loud --size $((3176 - bytes)))
 done
 
-# A strip is read in blocks of 4096 bytes: the head and 185 records fill the first.
+# A strip is read in blocks of 4096 bytes: the head and 185 records of version 1 fill the first, and of version 2 the last byte of
+# record 185 is in the second.
 wav --rate 8000 --samples 14800 >"$room/185.wav"
-for records in 184 185 186 187; do
-    flat $records 80 >"$room/blocks.strip"
-    kept "$room/blocks.strip" <"$room/185.wav"
-    told=""
-    [ $records -lt 185 ] && told="recording: the strip ends before the recording, which goes on with frame 185"
-    [ $records -gt 185 ] && told="recording: the recording ends before the strip, which goes on with record 186"
-    same "recording: a strip of $records records for 185 frames: what is told, and said at the end" "$told $(end_of "$told")" "$(cat "$room/err") $(cat "$room/end")"
-    same_file "recording: a strip of $records records for 185 frames" <(head -c $((44 + 160 * (records < 185 ? records : 185))) "$room/185.wav") "$room/got"
+flat 187 80 >"$room/blocks.1"
+twin "$room/blocks.1" >"$room/blocks.2"
+for version in 1 2; do
+    for records in 184 185 186 187; do
+        kept <(head -c $((25 + version + 22 * records)) "$room/blocks.$version") <"$room/185.wav"
+        told=""
+        [ $records -lt 185 ] && told="recording: the strip ends before the recording, which goes on with frame 185"
+        [ $records -gt 185 ] && told="recording: the recording ends before the strip, which goes on with record 186"
+        same "recording: version $version, $records records for 185 frames: what is told, and said at the end" "$told $(end_of "$told")" "$(cat "$room/err") $(cat "$room/end")"
+        same_file "recording: version $version, $records records for 185 frames" <(head -c $((44 + 160 * (records < 185 ? records : 185))) "$room/185.wav") "$room/got"
+    done
 done
 
 # A read of standard input that fails on the way, since it would have to wait: it is told, once, the frames that came
 # whole are written, and nothing is said at the end.
 fails() { # NAME FRAMES STRIP: the bytes that come before it are standard input
     cat >"$room/bytes"
-    python3 - "$room/bytes" "$3" <<'FAILS' >"$room/got" 2>"$room/err" 3>"$room/end"
+    python - "$room/bytes" "$3" <<'FAILS' >"$room/got" 2>"$room/err" 3>"$room/end"
 import os, subprocess, sys
 source, sink = os.pipe()
 os.set_blocking(source, False)
@@ -303,7 +341,17 @@ while read -r digest name; do
     kept "$room/some/$name.strip" <"$room/some/$name.wav"
     same "recording: $name: nothing is told, and 0 is said at the end" " 0" "$(cat "$room/err") $(cat "$room/end")"
     same "recording: $name: the digest of what the ruled Rust writes" "$digest" "$(sha256sum <"$room/got" | head -c 64)"
+    kept <(twin "$room/some/$name.strip") <"$room/some/$name.wav"
+    same "recording: $name, by a strip of version 2: the same digest, and 0 is said at the end" "$digest 0" "$(sha256sum <"$room/got" | head -c 64) $(cat "$room/end")"
 done <tests/some-recordings.sha256
+
+# A threshold of 3000: what was read for thirty seconds counts with its last frame, and until then the sound stays as it is.
+wav --rate 4000 --samples 120040 --loud 3000 --seed 2 >"$room/thirty.wav"
+{ echo "head threshold 3000 samples 40 initial-gain 0" && yes "1 -50 -40 -80 -60" | head -n 3001; } | tools/strip-maker to-strip >"$room/thirty.strip"
+kept "$room/thirty.strip" <"$room/thirty.wav"
+same "recording: thirty seconds, and a threshold of 3000: nothing is told, and 0 is said at the end" " 0" "$(cat "$room/err") $(cat "$room/end")"
+first=$(cmp "$room/thirty.wav" "$room/got" | sed -n 's/.*byte \([0-9]*\),.*/\1/p')
+same "recording: thirty seconds, and a threshold of 3000: the first sample that is louder is one of frame 3000" 3000 "$(((${first:-0} - 45) / 80 + 1))"
 
 # Silence in gives silence out.
 wav --samples 4800 --loud 0 >"$room/silent.wav"
@@ -420,7 +468,7 @@ same_file "recording: nobody listens at the end: the output" "$good" "$out"
 closes() { # NAME TOLD DESCRIPTOR DUE WRITTEN WORDS..: what is due is written in spite of it
     local name=$1 told=$2 descriptor=$3 due=$4 written=$5
     shift 5
-    python3 - "$descriptor" "$good" "$@" <<'CLOSES' >"$room/got" 2>"$room/err" 3>"$room/end"
+    python - "$descriptor" "$good" "$@" <<'CLOSES' >"$room/got" 2>"$room/err" 3>"$room/end"
 import ctypes, os, platform, shutil, struct, sys
 kit = os.environ.get("RATTLE_HOME") or os.path.dirname(os.path.dirname(os.path.realpath(shutil.which("rt"))))
 place = f"{kit}/on/x86_64/toolchain/lib"
@@ -502,7 +550,7 @@ fi
 # Without a word it meters: twelve bytes with the samples of 10 ms, the channels and the size that the file says, and then for
 # each 10 ms twelve, the largest sum of the squares of a channel and the largest magnitude.
 metering() { # FILE [SIZE]: what is due of a file with a head of 44 bytes; the size that it says, where that is another
-    python3 - "$@" <<'METERING'
+    python - "$@" <<'METERING'
 import struct, sys
 file = open(sys.argv[1], "rb").read()
 channels, rate = struct.unpack_from("<HI", file, 22)
@@ -571,7 +619,7 @@ exec 4>&-
 same "recording: a metering that is killed: nothing is said at the end" "" "$(cat "$room/end")"
 # What can not be read or written.
 head -c $((44 + 2900)) "$good" >"$room/bytes"
-python3 - "$room/bytes" <<'FAILS' >"$room/got" 2>"$room/err" 3>"$room/end"
+python - "$room/bytes" <<'FAILS' >"$room/got" 2>"$room/err" 3>"$room/end"
 import os, subprocess, sys
 source, sink = os.pipe()
 os.set_blocking(source, False)
@@ -586,25 +634,28 @@ run <"$good" >&- 2>"$room/err" 3>"$room/end"
 same "recording: a metering without standard output" "recording: standard output: Bad file descriptor " "$(cat "$room/err") $(cat "$room/end")"
 closes "a metering with a close that fails" "recording: standard output: Input/output error" 1 "$room/due" "$room/got"
 
-# Recordings of hours, up to the largest that are known, with a loud chunk behind the samples, which is not heard. They are not
-# made where an emulator runs the program, since it would take minutes.
-long() { # CHANNELS SIZE: silence
-    wav --channels "$1" --samples 0 --size "$2"
-    head -c "$2" /dev/zero
-    printf 'LIST\x30\x75\0\0'
-    head -c 30000 /dev/zero | tr '\0' '\177'
-}
+# Hours, each with a loud chunk behind the samples, which is not heard: one hour of sound that is levelled, and the largest recording
+# whose size is known, metered. The silence of that is a hole in a file, which takes no room and is read fastest where files lie in
+# memory. They are not made where an emulator runs the program, since it would take minutes.
+loud_chunk() { printf 'LIST\x30\x75\0\0' && head -c 30000 /dev/zero | tr '\0' '\177'; }
 if [ "$(uname -m)" = x86_64 ]; then
-    for size in 2147418112 2147483648 4294967294; do
-        long 3 $size 2>/dev/null | run 2>"$room/err" 3>"$room/end" >"$room/got"
-        same "recording: a metering of three channels of $size bytes: what is told, and said at the end" " 0" "$(cat "$room/err") $(cat "$room/end")"
-        same "recording: a metering of three channels of $size bytes: a record for each 10 ms, and all are silent" \
-            "$((12 + 12 * ((size - size % 6 + 2879) / 2880))) 0" "$(wc -c <"$room/got") $(tail -c +13 "$room/got" | tr -d '\0' | wc -c)"
-    done
-    flat 279612 480 >"$room/hours.flat"
-    long 8 2147418112 2>/dev/null | run "$room/hours.flat" 2>"$room/err" 3>"$room/end" | tail -c +45 | cmp - <(head -c 2147418112 /dev/zero) >"$room/apart" 2>&1
-    same "recording: 46 minutes of eight channels, 2147418112 bytes, and a chunk behind them: the silence, and no more" "" "$(cat "$room/apart")"
-    same "recording: 46 minutes of eight channels: what is told, and said at the end" "recording: 46 min 0" "$(tail -n 1 "$room/err") $(cat "$room/end")"
+    size=57600000
+    python -c 'import sys; strip = open(sys.argv[1], "rb").read(); sys.stdout.buffer.write(strip[:26] + strip[26:48] * 360000)' "$room/80.flat" >"$room/hour.flat"
+    { wav --rate 8000 --samples 0 --size $size && yes ABCDEFG 2>/dev/null | head -c $size; } >"$room/hour.wav"
+    cat "$room/hour.wav" <(loud_chunk) | run "$room/hour.flat" 2>"$room/err" 3>"$room/end" | cmp -i 44 - "$room/hour.wav" >"$room/apart" 2>&1
+    same "recording: an hour at 8000 Hz, and a chunk behind it: every sample as it was, and no more" "" "$(cat "$room/apart")"
+    same "recording: an hour at 8000 Hz: what is told, and said at the end" "recording: 60 min 0" "$(tail -n 1 "$room/err") $(cat "$room/end")"
+    rm "$room/hour.wav"
+    hours=$(mktemp /dev/shm/murzicanu.XXXXXX 2>/dev/null || mktemp)
+    size=4294967294
+    wav --channels 3 --samples 0 --size $size >"$hours"
+    truncate -s $((44 + size)) "$hours"
+    loud_chunk >>"$hours"
+    kept <"$hours"
+    same "recording: a metering of three channels of $size bytes: what is told, and said at the end" " 0" "$(cat "$room/err") $(cat "$room/end")"
+    same "recording: a metering of three channels of $size bytes: a record for each 10 ms, and all are silent" \
+        "$((12 + 12 * ((size - size % 6 + 2879) / 2880))) 0" "$(wc -c <"$room/got") $(tail -c +13 "$room/got" | tr -d '\0' | wc -c)"
+    rm "$hours"
 fi
 
 # As a volunteer runs it.

@@ -2,16 +2,28 @@
 # The tool tools/strip-maker, as a volunteer runs it.
 cd "$(dirname "$0")/.." || exit 1
 . tests/check.bash
+# Python starts more than a hundred times: the one that is found, without a wrapper in front of it.
+PATH=$(dirname "$(python3 -c 'import os, sys; print(os.path.realpath(sys.executable))')"):$PATH
 room=$(mktemp -d)
 trap 'rm -rf "$room"' EXIT
 
 to_strip() { tools/strip-maker to-strip; }
 to_lines() { tools/strip-maker to-lines; }
+# The bytes that these digits say, two for each.
+hex() { # DIGITS..
+    local digits="$*" all=
+    digits=${digits// /}
+    for ((; ${#digits} > 0; )); do
+        all+="\\x${digits:0:2}"
+        digits=${digits:2}
+    done
+    printf "$all"
+}
 
 # A call that must fail: status 1, this message and nothing else, and no byte on standard output.
 refused() { # NAME MESSAGE COMMAND..
     "${@:3}" >"$room/out" 2>"$room/err"
-    same "strip-maker: $1" "status 1, 0 bytes, $2" "status $?, $(wc -c <"$room/out") bytes, $(cat "$room/err")"
+    same "strip-maker: $1" "status 1, 0 bytes, $2" "status $?, $(wc -c <"$room/out") bytes, $(<"$room/err")"
 }
 
 to_strip <examples/service.txt >"$room/strip"
@@ -35,7 +47,7 @@ LINES
 # number, and what that number means.
 means=([1]="the samples are not 40 to 480 in a multiple of 20" [2]="a figure is not a number, or is out of range"
     [4]="a setting is not a number, is out of range, or is a negative zero" [5]="the strip ends inside it"
-    [6]="its length is not what it must be" [7]="the version is not 1")
+    [6]="its length is not what it must be" [7]="the version is neither 1 nor 2")
 for strip in tests/strips/*.strip; do
     name=$(basename "$strip" .strip)
     last=$(tail -n 1 "tests/strips/$name.lines")
@@ -49,6 +61,63 @@ for strip in tests/strips/*.strip; do
         ;;
     esac
 done
+
+# Both versions. The settings of a head, a record, and what a line says of them.
+usual=40a00000424800004170000040c00000c2480000
+reading=00143f800000c220000000000000c2b40000c2b40000
+settings="headroom 5 largest-gain 50 initial-gain 15 change-per-second 6 output-noise -50"
+# Lines make these bytes, and the bytes say the lines again: without the version where it is the usual one.
+both_ways() { # WORDS HEAD: the words before the samples, and the head's bytes before them
+    { hex "$2" 01e0 $usual $reading; } >"$room/due"
+    printf '%s\n' "head $1 samples 480" "1 -40 0 -90 -90" | to_strip >"$room/strip"
+    same_file "strip-maker: 'head $1 samples 480' makes the bytes $2" "$room/due" "$room/strip"
+    same "strip-maker: and they say '$1' again" \
+        "head $1 samples 480 $settings, # probability rms peak noise envelope, 1 -40 0 -90 -90" "$(to_lines <"$room/due" | paste -sd, | sed 's/,/, /g')"
+}
+both_ways "threshold 1" "0018 01 01"
+both_ways "threshold 200" "0018 01 c8"
+both_ways "threshold 201" "0019 02 00c9"
+both_ways "threshold 256" "0019 02 0100"
+both_ways "threshold 3000" "0019 02 0bb8"
+both_ways "version 2 threshold 1" "0019 02 0001"
+both_ways "version 2 threshold 200" "0019 02 00c8"
+# The version may stand anywhere in the head, and may be the usual one.
+asked() { # WORDS HEAD
+    same "strip-maker: 'head $1' makes the head $2" "${2// /} 01e0 $usual" \
+        "$(echo "head $1" | to_strip | od -An -v -tx1 | tr -d ' \n' | sed 's/01e0/ 01e0 /')"
+}
+asked "threshold 12 samples 480 version 1" "0018 01 0c"
+asked "headroom 5, version 2, samples 480, threshold 3000" "0019 02 0bb8"
+# Heads of each version that are refused, in the order 5, 7, 6, 5, 1, 4. A record follows them.
+head_bytes() { # NAME REPLY DIGITS
+    refused "$1" "the head is refused with $2: ${means[$2]}" to_lines < <(hex "$3")
+}
+head_bytes "two bytes of version 2" 5 "0019"
+for version in 00 03 ff; do
+    head_bytes "version $version, with the length of version 2" 7 "0019 $version 000c 01e0 $usual $reading"
+    head_bytes "version $version, with no length" 7 "0000 $version"
+done
+head_bytes "version 2 with the length of version 1" 6 "0018 02 0c 01e0 $usual $reading"
+head_bytes "version 1 with the length of version 2" 6 "0019 01 000c 01e0 $usual $reading"
+head_bytes "version 2 with the length of version 1, and cut" 6 "0018 02"
+head_bytes "version 2, its head cut after 3 bytes" 5 "0019 02"
+head_bytes "version 2, its head cut after 26 bytes" 5 "0019 02 000c 01e0 ${usual::38}"
+head_bytes "version 2 with 20 samples and the threshold 0" 1 "0019 02 0000 0014 $usual $reading"
+for threshold in 0000 0bb9 0cb8 8001 ffff; do
+    head_bytes "version 2 with the threshold $threshold" 4 "0019 02 $threshold 01e0 $usual $reading"
+done
+for threshold in 00 c9 ff; do
+    head_bytes "version 1 with the threshold $threshold" 4 "0018 01 $threshold 01e0 $usual $reading"
+done
+head_bytes "version 2 with a negative zero" 4 "0019 02 000c 01e0 80000000 ${usual:8} $reading"
+# Records are the same in both versions: 22 bytes, and a length of 0 is none.
+record_bytes() { # NAME REPLY DIGITS
+    refused "version 2: $1" "record 2 is refused with $2: ${means[$2]}" to_lines < <(hex "0019 02 0bb8 01e0 $usual $reading" "$3")
+}
+record_bytes "a record of length 0" 6 "0000 $reading"
+record_bytes "a record of one byte" 5 "00"
+record_bytes "a record that is cut" 5 "${reading::42}"
+record_bytes "a record whose probability is above 1" 2 "0014 3f800001 ${reading:12}"
 
 # Any figures: bits by chance, and whatever of them is accepted.
 python3 - >"$room/any" <<'END_OF_PYTHON'
@@ -65,9 +134,10 @@ for _ in range(1000):
     strip += b"\0\x14" + b"".join(bits)
 sys.stdout.buffer.write(strip)
 END_OF_PYTHON
-to_lines <"$room/any" | to_strip >"$room/strip"
+to_lines <"$room/any" >"$room/lines"
+to_strip <"$room/lines" >"$room/strip"
 same_file "strip-maker: a thousand records of any bits, to lines and back" "$room/any" "$room/strip"
-same "strip-maker: no decimal that it writes has an exponent" 0 "$(to_lines <"$room/any" | sed 1,2d | grep -c '[^-0-9. ]')"
+same "strip-maker: no decimal that it writes has an exponent" 0 "$(sed 1,2d "$room/lines" | grep -c '[^-0-9. ]')"
 
 # What a line may look like: each of these is the paper's second record.
 lines() { printf -- "head threshold 2 samples 480\n$1"; }
@@ -102,10 +172,17 @@ head_line "head threshold 2" "the head has no samples"
 head_line "head threshold 2 samples" "the samples has no number after it"
 head_line "head threshold 2 samples 480 samples 480" "the samples is there twice"
 head_line "head threshold 2 samples 480 volume 3" \
-    "'volume' is not one of threshold, samples, headroom, largest-gain, initial-gain, change-per-second, output-noise"
-for n in 0 201 -1 2.5 two 1e1 99999999999999999999; do
-    head_line "head threshold $n samples 480" "the threshold $n is not a whole number from 1 to 200"
+    "'volume' is not one of version, threshold, samples, headroom, largest-gain, initial-gain, change-per-second, output-noise"
+for n in 0 3001 -1 2.5 two 1e1 99999999999999999999; do
+    head_line "head threshold $n samples 480" "the threshold $n is not a whole number from 1 to 3000"
 done
+head_line "head version 2 threshold 3001 samples 480" "the threshold 3001 is not a whole number from 1 to 3000"
+for n in 0 201 3000; do
+    head_line "head version 1 threshold $n samples 480" "the threshold $n is not a whole number from 1 to 200, which is all that version 1 can say"
+done
+for n in 0 3 2.0 two; do head_line "head threshold 12 samples 480 version $n" "the version $n is not 1 or 2"; done
+head_line "head version 1 threshold 12 version 1 samples 480" "the version is there twice"
+head_line "head threshold 12 samples 480 version" "the version has no number after it"
 for n in 20 39 50 500 0 480.0; do
     head_line "head threshold 2 samples $n" "the samples $n is not from 40 to 480 in a multiple of 20"
 done

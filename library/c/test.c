@@ -33,18 +33,21 @@ static float real(const unsigned char *at) {
 /* Hundredths of a figure, cut toward zero; a double holds them exactly. */
 static long hundredths(float x) { return (long)((double)x * 100.0); }
 
-/* A service run through the library over silent frames, each line as the program `strip` prints it. */
+/* A service run through the library over silent frames, each line as the program `strip` prints it. A strip of version 1
+ * has its threshold in one byte, and one of version 2 in two. */
 static void service(const char *strip, const char *lines) {
     FILE *in = fopen(strip, "rb"), *due = fopen(lines, "r");
-    unsigned char head[26], record[22];
-    if (!in || !due || fread(head, 1, 26, in) != 26) {
+    unsigned char head[27], record[22];
+    int version = in && due && fread(head, 1, 3, in) == 3 ? head[2] : 0;
+    if ((version != 1 && version != 2) || fread(head + 3, 1, 22 + version, in) != 22u + version) {
         check(0, "the example service can be read");
         return;
     }
-    size_t samples = big(head + 4, 2);
-    murzicanu_settings settings = {real(head + 6), real(head + 10), real(head + 14), real(head + 18), real(head + 22)};
+    const unsigned char *rest = head + 3 + version;
+    size_t samples = big(rest, 2);
+    murzicanu_settings settings = {real(rest + 2), real(rest + 6), real(rest + 10), real(rest + 14), real(rest + 18)};
     murzicanu_chain chain;
-    check(murzicanu_chain_new(&chain, &settings, head[3], samples) == MURZICANU_DONE, "a new chain");
+    check(murzicanu_chain_new(&chain, &settings, big(head + 3, version), samples) == MURZICANU_DONE, "a new chain");
     int same = 1, count = 0;
     while (fread(record, 1, 22, in) == 22) {
         float frame[480] = {0};
@@ -295,6 +298,53 @@ static void many(void) {
           "and after them the chain, the limiter and the frame are those of before, byte for byte");
 }
 
+/* Frames of silence with these figures through a chain: how many of them are of each kind, and whether each that waits
+ * tells one frame less than the one before it. */
+static int heard(murzicanu_chain *chain, murzicanu_figures figures, int frames, int *kinds) {
+    int good = 1;
+    uint32_t missing = 0;
+    for (int k = 0; k < frames; k++) {
+        float frame[40] = {0};
+        murzicanu_answer answer = {0, 0, 0, 0};
+        good = good && murzicanu_chain_step(chain, &figures, frame, 40, 1, 40, &answer) == MURZICANU_DONE && answer.kind < 3;
+        kinds[good ? answer.kind : 0]++;
+        good = good && (missing == 0 || answer.missing == missing - 1);
+        missing = answer.missing;
+    }
+    return good;
+}
+
+/* The longest threshold: thirty seconds of speech, and until then what stood before is published. */
+static void longest(void) {
+    murzicanu_settings settings = MURZICANU_USUAL_SETTINGS;
+    const murzicanu_figures quiet = {1.0f, -60.0f, -50.0f, -90.0f, -60.0f}, pause = {0.0f, -70.0f, -60.0f, -90.0f, -60.0f};
+    murzicanu_chain chain, other;
+    murzicanu_published before, now;
+    int kinds[3] = {0}, pauses[3] = {0};
+    settings.change = 1.0f;
+    check(murzicanu_chain_new(&chain, &settings, 3000, 40) == MURZICANU_DONE, "a new chain with threshold 3000");
+    int good = murzicanu_chain_read(&chain, &before) == MURZICANU_DONE;
+    good = good && heard(&chain, quiet, 2999, kinds) && kinds[MURZICANU_WAITING] == 2999;
+    good = good && murzicanu_chain_read(&chain, &now) == MURZICANU_DONE && unchanged(&before, &now, sizeof now);
+    check(good && now.gain == 15.0f, "with threshold 3000, 2999 speech frames wait, and what is published stands");
+    good = heard(&chain, quiet, 1, kinds) && kinds[MURZICANU_PUBLISHING] == 1 &&
+           murzicanu_chain_read(&chain, &now) == MURZICANU_DONE;
+    check(good && now.level < before.level && now.confident == 1, "and the 3000th publishes a level that is trusted");
+    /* At one dB a second the gain may rise by 30 dB after thirty seconds; the target lies between, so it is reached. */
+    check(good && now.gain > 30.0f && now.gain < 45.0f, "the first step up is that of 3000 frames");
+    settings.change = 0.5f;
+    good = murzicanu_chain_new(&chain, &settings, 3000, 40) == MURZICANU_DONE && heard(&chain, quiet, 3000, kinds) &&
+           murzicanu_chain_read(&chain, &now) == MURZICANU_DONE && fabsf(now.gain - 30.0f) < 0.001f;
+    good = good && heard(&chain, quiet, 1, kinds) && murzicanu_chain_read(&chain, &now) == MURZICANU_DONE;
+    check(good && fabsf(now.gain - 30.005f) < 0.001f, "at half a dB a second it is 15 dB, and the next one 0.005 dB");
+
+    good = murzicanu_chain_new(&chain, &settings, 3000, 40) == MURZICANU_DONE &&
+           murzicanu_chain_new(&other, &settings, 3000, 40) == MURZICANU_DONE && heard(&chain, quiet, 2999, kinds) &&
+           heard(&chain, pause, 1, kinds) && heard(&other, pause, 3000, pauses);
+    check(good && pauses[MURZICANU_NO_SPEECH] == 3000 && unchanged(&chain, &other, sizeof chain),
+          "a run of 2999 frames that a pause ends leaves no byte in the chain");
+}
+
 /* The register MXCSR: how the processor rounds, and what it does with the smallest numbers. */
 enum { DEFAULT = 0x1F80, ROUND_DOWN = 0x3F80, ROUND_UP = 0x5F80, ROUND_TO_ZERO = 0x7F80, FTZ = 0x9F80, DAZ = 0x1FC0 };
 
@@ -360,6 +410,7 @@ int main(int argc, char **argv) {
     determined();
     refused();
     many();
+    longest();
     floats();
 
     murzicanu_settings settings = MURZICANU_USUAL_SETTINGS, wrong = settings;
@@ -368,7 +419,12 @@ int main(int argc, char **argv) {
     wrong.change = NAN;
     check(murzicanu_chain_new(&chain, &settings, 12, 441) == MURZICANU_SHAPE, "441 samples are refused with 1");
     check(murzicanu_chain_new(&chain, &wrong, 12, 480) == MURZICANU_SETTING, "a setting that is no number is refused with 4");
-    check(murzicanu_chain_new(&chain, &settings, 201, 480) == MURZICANU_SETTING, "a threshold of 201 is refused with 4");
+    const uint32_t thresholds[] = {0, 3001, 65536 + 12, UINT32_MAX};
+    for (int t = 0; t < 4; t++) {
+        char name[64];
+        snprintf(name, sizeof name, "a threshold of %u is refused with 4", thresholds[t]);
+        check(murzicanu_chain_new(&chain, &settings, thresholds[t], 480) == MURZICANU_SETTING, name);
+    }
 
     /* Eight channels, loud enough for the limiter. */
     murzicanu_figures figures = {0.95f, -20.0f, -12.0f, -80.0f, -60.0f};

@@ -52,7 +52,7 @@ extern "C" {
 #define MURZICANU_FIGURE 2u
 /* A sample that is not a number, infinite or too large: beyond 65536 for a chain, 33554432 for a limiter. */
 #define MURZICANU_SAMPLE 3u
-/* A setting out of its range, a threshold that is not 1 to 200, or a state that fails its test. */
+/* A setting out of its range, a threshold that is not 1 to 3000, or a state that fails its test. */
 #define MURZICANU_SETTING 4u
 
 /* What an operator sets. */
@@ -67,7 +67,7 @@ typedef struct {
 /* The usual settings: murzicanu_settings s = MURZICANU_USUAL_SETTINGS; */
 #define MURZICANU_USUAL_SETTINGS {5.0f, 50.0f, 15.0f, 6.0f, -50.0f}
 
-/* How many adjacent speech frames make a reading, usually. */
+/* How many adjacent speech frames make a reading, usually. A threshold may be 1 to 3000, which is thirty seconds. */
 #define MURZICANU_USUAL_THRESHOLD 12u
 
 /* What your meters said of a frame. */
@@ -248,9 +248,10 @@ static inline int murzicanu_floats_ready(void) {
 
 /* ---- The whole box: level of the speech, headroom, gain, limiter. */
 
-/* Makes a new chain for frames with so many samples a channel (10 ms: 480 at 48 kHz). A speech run of fewer frames
- * than the threshold that a non-speech frame closes leaves no trace in what is published later. Refused with 1 or 4; the
- * chain is then all 0, and every call refuses it. */
+/* Makes a new chain for frames with so many samples a channel (10 ms: 480 at 48 kHz). The threshold, 1 to 3000, is how
+ * many speech frames in a row make a reading: until a run has so many, what stood before stays published. A speech run of
+ * fewer frames that a non-speech frame closes leaves no trace in what is published later. Refused with 1 or 4; the chain
+ * is then all 0, and every call refuses it. */
 uint32_t murzicanu_chain_new(murzicanu_chain *chain, const murzicanu_settings *settings, uint32_t threshold,
                              size_t samples);
 

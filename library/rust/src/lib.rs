@@ -37,7 +37,7 @@ mod library;
 
 pub use floats::floats_ready;
 
-/// How many adjacent speech frames make a reading, usually.
+/// How many adjacent speech frames make a reading, usually. A threshold may be 1 to 3000, which is thirty seconds.
 pub const USUAL_THRESHOLD: u32 = 12;
 
 /// The version of the archive's interface that this crate is written for: of its functions and its structs.
@@ -54,7 +54,7 @@ pub enum Refusal {
     Figure,
     /// A sample that is not a number, infinite or too large: beyond 65536 for a chain, 33554432 for a limiter.
     Sample,
-    /// A setting out of its range, or a threshold that is not 1 to 200. From a step or a reading only in a thread that
+    /// A setting out of its range, or a threshold that is not 1 to 3000. From a step or a reading only in a thread that
     /// does not compute floats as it should ([`floats_ready`]).
     Setting,
     /// The archive that is linked has this version, and not [`VERSION`]. Told by `new`, which makes nothing then.
@@ -213,6 +213,9 @@ pub struct Chain {
 
 impl Chain {
     /// A new chain for frames with so many samples a channel (10 ms: 480 at 48 kHz).
+    ///
+    /// The threshold, 1 to 3000, is how many speech frames in a row make a reading. Until a run has so many, it is
+    /// [`Answer::Waiting`], and what stood before stays published: with 3000 that is thirty seconds of unbroken speech.
     ///
     /// # Errors
     ///

@@ -41,17 +41,22 @@ fn file(variable: &str, example: &str) -> PathBuf {
 fn a_service_has_the_lines_that_are_due() {
     let strip = fs::read(file("MURZICANU_STRIP", "service.strip")).unwrap();
     let due = fs::read_to_string(file("MURZICANU_LINES", "service.lines")).unwrap();
-    let samples = usize::from(u16::from_be_bytes([strip[4], strip[5]]));
+    // A strip of version 1 has its threshold in one byte, and one of version 2 in two.
+    let version = usize::from(strip[2]);
+    assert!(version == 1 || version == 2);
+    let (threshold, rest) = strip[3..].split_at(version);
+    let threshold = threshold.iter().fold(0, |n, byte| 256 * n + u32::from(*byte));
+    let samples = usize::from(u16::from_be_bytes([rest[0], rest[1]]));
     let settings = Settings {
-        headroom: real(&strip[6..10]),
-        largest_gain: real(&strip[10..14]),
-        initial_gain: real(&strip[14..18]),
-        change: real(&strip[18..22]),
-        noise: real(&strip[22..26]),
+        headroom: real(&rest[2..6]),
+        largest_gain: real(&rest[6..10]),
+        initial_gain: real(&rest[10..14]),
+        change: real(&rest[14..18]),
+        noise: real(&rest[18..22]),
     };
-    let mut chain = Chain::new(&settings, u32::from(strip[3]), samples).unwrap();
+    let mut chain = Chain::new(&settings, threshold, samples).unwrap();
     let mut made = String::new();
-    for (k, record) in strip[26..].chunks_exact(22).enumerate() {
+    for (k, record) in rest[22..].chunks_exact(22).enumerate() {
         let figures = Figures {
             probability: real(&record[2..6]),
             rms: real(&record[6..10]),
@@ -99,6 +104,52 @@ fn a_short_cough_leaves_no_trace_and_a_long_one_does() {
     let quiet = run(0);
     assert!(run(11) == quiet, "a run of 11 frames changed what is published or heard");
     assert!(run(12) != quiet, "a run of 12 frames changed nothing");
+}
+
+#[test]
+fn a_threshold_is_1_to_3000() {
+    for threshold in [1, 200, 201, 3000] {
+        assert!(Chain::new(&Settings::default(), threshold, 480).is_ok(), "{threshold}");
+    }
+    for threshold in [0, 3001, 65536 + 12, u32::MAX] {
+        assert_eq!(Chain::new(&Settings::default(), threshold, 480).err(), Some(Refusal::Setting), "{threshold}");
+    }
+}
+
+/// Frames of silence with these figures, and what each was.
+fn heard(chain: &mut Chain, figures: &Figures, frames: usize) -> Vec<Answer> {
+    (0..frames).map(|_| chain.step(figures, &mut [0.0; 40], 1).unwrap()).collect()
+}
+
+#[test]
+fn a_threshold_of_3000_waits_for_thirty_seconds_of_speech() {
+    let quiet = Figures { probability: 1.0, rms: -60.0, peak: -50.0, noise: -90.0, envelope: -60.0 };
+    let pause = Figures { probability: 0.0, ..quiet };
+    let settings = Settings { change: 0.5, ..Settings::default() };
+    let mut chain = Chain::new(&settings, 3000, 40).unwrap();
+    let (before, mut never) = (chain.published().unwrap(), chain.clone());
+    for (k, answer) in heard(&mut chain, &quiet, 2999).into_iter().enumerate() {
+        assert_eq!(answer, Answer::Waiting { missing: 2999 - k as u32 });
+    }
+    assert_eq!(chain.published().unwrap(), before);
+    let mut closed = chain.clone();
+    let last = heard(&mut chain, &quiet, 1);
+    let now = chain.published().unwrap();
+    assert_eq!(last, [Answer::Publishing { level: now.level, headroom: now.headroom }]);
+    assert!(now.level < before.level && now.confident && !before.confident);
+    // Half a dB a second, for the thirty seconds that it waited; and then 0.005 dB a frame.
+    assert!((now.gain - before.gain - 15.0).abs() < 0.001, "{}", now.gain);
+    heard(&mut chain, &quiet, 1);
+    let gain = chain.published().unwrap().gain;
+    assert!((gain - now.gain - 0.005).abs() < 0.001, "{gain}");
+    // The same run ended by a pause, and no run at all: what comes then is heard alike.
+    heard(&mut closed, &pause, 1);
+    heard(&mut never, &pause, 3000);
+    for _ in 0..3001 {
+        assert_eq!(heard(&mut closed, &quiet, 1), heard(&mut never, &quiet, 1));
+        assert_eq!(closed.published().unwrap(), never.published().unwrap());
+    }
+    assert!(closed.published().unwrap().confident);
 }
 
 #[test]
