@@ -294,9 +294,10 @@ fn head_place(version: Version, strip: &[u8]) -> u32
         let bytes = head_size(version);
         let due = bytes - LENGTH_BYTES;
         let length = two_at(strip, 0) as usize;
+        let named = says == number(version);
         let whole = floats::pick_u32(bytes <= strip.len(), DONE, CUT);
         let after_version = floats::pick_u32(length == due, whole, LENGTH);
-        floats::pick_u32(says == number(version), after_version, VERSION)
+        floats::pick_u32(named, after_version, VERSION)
     } else {
         CUT
     }

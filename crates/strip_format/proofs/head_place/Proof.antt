@@ -34,14 +34,14 @@ two-at-requires c κs = omega arith
 cast-length : tie.Need-cast-length
 cast-length c = omega arith
 
+number-requires : tie.Need-number-requires
+number-requires c κs = tt
+
 pick-u32-requires : tie.Need-pick-u32-requires
 pick-u32-requires c κs = tt
 
 pick-u32-requires-2 : tie.Need-pick-u32-requires-2
 pick-u32-requires-2 c κs = tt
-
-number-requires : tie.Need-number-requires
-number-requires c κs = tt
 
 pick-u32-requires-3 : tie.Need-pick-u32-requires-3
 pick-u32-requires-3 c κs = tt
@@ -56,10 +56,10 @@ place v strip bytes length′ whole after number r h b p q s n t =
 
 returns : tie.Need-returns
 returns c =
-    let at-number = c .before in
-    let at-after = at-number .before in
+    let at-after = c .before in
     let at-whole = at-after .before in
-    let at-two = at-whole .before in
+    let at-number = at-whole .before in
+    let at-two = at-number .before in
     let at-size = at-two .before in
     let taken = at-size .before .before in
     let start = taken .before .before in
@@ -81,9 +81,9 @@ head-place-spec =
     sub-due
     two-at-requires
     cast-length
+    number-requires
     pick-u32-requires
     pick-u32-requires-2
-    number-requires
     pick-u32-requires-3
     returns
     returns-2)
