@@ -8,7 +8,7 @@ trap 'rm -rf "$room"' EXIT
 mkdir -p "$room/tests" "$room/crates/laws/"{src,specs,wrong,must-fail}
 cp tests/wrong-programs "$room/tests"
 cp -r crates/bits "$room/crates"
-rm -f "$room"/crates/bits/wrong/*
+rm -rf "$room"/crates/bits/wrong/*
 echo "// There is no code here." >"$room/crates/laws/src/lib.rt"
 cat >"$room/crates/laws/specs/Lib.antt" <<'END'
 use mathlib.Core.Path.{_≡_, refl}
@@ -69,3 +69,10 @@ same "wrong programs: its logs and those of rt ci stand apart" "bits laws bits l
 rm "$room"/crates/bits/wrong/{below,right,named,twice}.edit "$room"/crates/laws/wrong/*
 (cd "$room" && tests/wrong-programs) >"$room/said"
 same "wrong programs: a wrong one alone ends well" "0 1" "$? $(said 'ok wrong program bits/wrong is refused')"
+mkdir "$room/crates/bits/wrong/more"
+edit bits/nan src/lib.rt '2143289344 }' '2143289346 }'
+mv "$room"/crates/bits/wrong/{nan.edit,more}
+(cd "$room" && tests/wrong-programs) >"$room/said"
+same "wrong programs: what is in more is left out" "0 0" "$? $(said 'bits/nan')"
+(cd "$room" && tests/wrong-programs --every) >"$room/said"
+same "wrong programs: every one is tried where that is asked for" "0 2" "$? $(said 'ok wrong program bits/\(wrong\|nan\) is refused')"
