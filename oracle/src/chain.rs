@@ -272,7 +272,7 @@ fn edges() -> Edges {
     }
     // Each threshold beside the other two.
     for (t, name) in [(1, "chain threshold of the protector"), (2, "chain threshold of the controller")] {
-        all.at(name, THRESHOLDS[t], &[3], &[2, 4, 1, 200]);
+        all.at(name, THRESHOLDS[t], &[3], &[2, 4, 1, 200, judge::LARGEST_THRESHOLD]);
     }
     all.at("chain threshold of the protector", THRESHOLDS[0], &[], &[2, 4]);
     // Each setting of the controller beside the speech level's, and the other way round, by one place.
@@ -345,6 +345,11 @@ impl Passage {
             1 => threshold + 1,
             _ => threshold + source.up_to(60),
         };
+        Passage::of(length, threshold, source)
+    }
+
+    /// One of so many frames.
+    pub fn of(length: u32, threshold: u32, source: &mut Random) -> Passage {
         let pause = if source.up_to(3) == 0 { 1 + source.up_to(20) } else { 1 };
         let middles = [
             RMS.middle(source),
@@ -353,7 +358,7 @@ impl Passage {
             if source.up_to(2) == 0 { 20.0 * judge::fraction(source) - 2.0 } else { -90.0 },
         ];
         Passage {
-            cough,
+            cough: length < threshold,
             length,
             pause,
             middles,
@@ -422,6 +427,8 @@ struct Desk {
     by_hand: usize,
     again: usize,
     zeros: usize,
+    /// Frames of services with a threshold above 200 as they are, and first faster steps that no T up to 200 allows.
+    long: [usize; 2],
 }
 
 impl Desk {
@@ -640,23 +647,116 @@ impl Desk {
         let mut all = Vec::new();
         while all.len() < frames {
             let passage = Passage::any(threshold, source);
-            if passage.cough {
-                self.coughs += 1;
-            } else {
-                self.readings += 1;
-            }
-            for i in 0..passage.length + passage.pause {
-                let speech = i < passage.length;
-                let figures = passage.figures(speech, source);
-                let frame = sound::frame(source.up_to(9) as usize, channels, samples, LARGEST, source);
-                all.push(Step {
-                    figures,
-                    frame,
-                    cough: passage.cough && speech,
-                });
-            }
+            self.add_steps(&passage, channels, samples, source, &mut all);
         }
         all
+    }
+
+    fn add_steps(&mut self, passage: &Passage, channels: u32, samples: u32, source: &mut Random, all: &mut Vec<Step>) {
+        if passage.cough {
+            self.coughs += 1;
+        } else {
+            self.readings += 1;
+        }
+        for i in 0..passage.length + passage.pause {
+            let speech = i < passage.length;
+            let figures = passage.figures(speech, source);
+            let frame = sound::frame(source.up_to(9) as usize, channels, samples, LARGEST, source);
+            all.push(Step {
+                figures,
+                frame,
+                cough: passage.cough && speech,
+            });
+        }
+    }
+
+    /// A service of readings and coughs of these lengths.
+    fn long_service(&mut self, threshold: u32, channels: u32, samples: u32, lengths: &[u32], source: &mut Random, to: Ask) -> bool {
+        let mut steps = Vec::new();
+        for &length in lengths {
+            let passage = Passage::of(length, threshold, source);
+            self.add_steps(&passage, channels, samples, source, &mut steps);
+        }
+        self.long[0] += steps.len();
+        let settings = Settings::any(source);
+        self.service(settings, threshold, samples, &steps, source, to)
+    }
+
+    /// A cough and a reading over which there is far to go from the initial gain, with a change per second: in the reading's
+    /// T-th frame the gain makes its first faster step, and not before.
+    fn faster(&mut self, threshold: u32, change: f32, source: &mut Random, to: Ask) -> bool {
+        let mut settings = Settings::USUAL;
+        settings.0[2] = 0;
+        settings.0[3] = change.to_bits();
+        let frame = sound::frame(2, 1, 40, LARGEST, source);
+        let quiet = [1.0_f32, -80.0, -60.0, -150.0, -150.0].map(f32::to_bits);
+        let pause = [0.0_f32, -80.0, -60.0, -150.0, -150.0].map(f32::to_bits);
+        let step = |figures: Figures, cough: bool| Step {
+            figures,
+            frame: frame.clone(),
+            cough,
+        };
+        let mut steps: Vec<Step> = (1..threshold).map(|_| step(quiet, true)).collect();
+        steps.push(step(pause, false));
+        steps.extend((0..threshold).map(|_| step(quiet, false)));
+        self.coughs += 1;
+        self.readings += 1;
+        self.long[0] += steps.len();
+        if !self.service(settings, threshold, 40, &steps, source, to) {
+            return false;
+        }
+        let gain = self.state.controller.gain;
+        if !(gain > 200.5 * change / 100.0) {
+            judge::object(&mut self.unlike, format!("T {}, {} dB a second: a first step to {} dB", threshold, change, gain));
+        }
+        self.long[1] += 1;
+        true
+    }
+
+    /// The last frames of a reading at the largest threshold, from the state that those before them brought about, which is
+    /// handed in: W with 2 missing and with 1, P twice, and N. The frames before it go through the Rust too.
+    fn near_threshold(&mut self, source: &mut Random, to: Ask) -> bool {
+        let most = judge::LARGEST_THRESHOLD;
+        let frame = sound::frame(2, 1, 40, LARGEST, source);
+        let passage = Passage::of(most, most, source);
+        let mut going = self.fresh(Settings::USUAL, most, 40, to);
+        for _ in 0..most - 3 {
+            let figures = passage.figures(true, source);
+            if self.state.step(&figures, &mut frame.sound()).is_none() {
+                judge::object(&mut self.unlike, "no applier in a chain".to_string());
+            }
+            if let Some(both) = &mut self.rust {
+                both.ruled.step(&figures, &mut frame.sound());
+                both.as_is.step(&figures, &mut frame.sound());
+            }
+        }
+        going = going && self.set_again(to);
+        for speech in [true, true, true, true, false] {
+            going = going && self.step(&passage.figures(speech, source), &frame, to).is_some();
+        }
+        going && self.look(to)
+    }
+
+    /// Services with thresholds above 200: the longest runs of a short comparison, and as many frames of others as asked.
+    fn long_services(&mut self, frames: usize, source: &mut Random, to: Ask) -> bool {
+        let most = judge::LARGEST_THRESHOLD;
+        let wanted = self.frames[0] + frames;
+        let mut going = self.long_service(most, 1, 40, &[most - 1, most, 1, most + 1, most - 1, most + 700], source, to)
+            && self.long_service(most, 1, 480, &[most - 1, most + 1], source, to)
+            && self.long_service(most, 8, 40, &[7, most], source, to)
+            && self.long_service(1500, 1, 40, &[1499, 1500, 1501], source, to)
+            && [0.01, 0.5, 6.0].iter().all(|&change| self.faster(most, change, source, to));
+        while going && self.frames[0] < wanted {
+            going = self.any_long_service(source, to);
+        }
+        going
+    }
+
+    /// Four runs of any threshold above 200: one short of it, at it, one past it, and any.
+    fn any_long_service(&mut self, source: &mut Random, to: Ask) -> bool {
+        let threshold = 201 + source.up_to(judge::LARGEST_THRESHOLD - 201);
+        let any = 1 + source.up_to(2 * threshold);
+        self.long_service(threshold, 1, 40, &[threshold - 1, threshold, threshold + 1, any], source, to)
     }
 
     /// Calls that are refused, and a good one between: nothing changes.
@@ -666,7 +766,8 @@ impl Desk {
         let mut going = wrong.into_iter().step_by(4).all(|settings| self.fresh(settings, 2, 40, to))
             && judge::WRONG_THRESHOLDS.iter().all(|&t| self.fresh(Settings::USUAL, t, 40, to))
             && self.step(&GOOD, &good, to).is_some()
-            && [0, 20, 50, 500].iter().all(|&n| self.fresh(Settings::USUAL, 201, n, to))
+            && [0, 20, 50, 500].iter().all(|&n| self.fresh(Settings::USUAL, judge::LARGEST_THRESHOLD + 1, n, to))
+            && judge::GOOD_THRESHOLDS.iter().all(|&t| self.fresh(Settings::USUAL, t, 40, to))
             && self.fresh(Settings::USUAL, 2, 40, to);
         for frame in sound::damaged(&good, LARGEST) {
             going = going && self.step(&GOOD, &frame, to).is_some();
@@ -699,6 +800,7 @@ pub fn list(seed: u64, to: Ask) -> Vec<String> {
         let closed = steps.iter().rposition(|s| !s.cough).map_or(0, |i| i + 1);
         desk.service(Settings::USUAL, threshold, samples, &steps[..closed], source, to);
     }
+    desk.near_threshold(source, to);
     desk.unlike
 }
 
@@ -726,14 +828,14 @@ impl Part for Chains {
     fn ask(&mut self, to: Ask) {
         let source = &mut Random::new(self.seed);
         let desk = &mut self.desk;
-        let wanted = self.length.of(10_000, 1_000_000, 80_000);
+        let wanted = self.length.frames(10_000, 1_000_000, 80_000);
         let mut going = self.length == Length::Round
             || (desk.damaged(source, to) && desk.at_edges(false, &mut Random::new(self.seed), to));
         if self.length == Length::States {
             return;
         }
         while going && desk.frames[0] < wanted {
-            let threshold = judge::one_of(&judge::THRESHOLDS, source);
+            let threshold = judge::short_threshold(source);
             let (channels, samples) = match source.up_to(63) {
                 0 => (1 + source.up_to(7), 40),
                 1 => (1, sound::any_samples(source)),
@@ -746,6 +848,13 @@ impl Part for Chains {
             going = desk.service(settings, threshold, samples, &steps, source, to)
                 && (self.length != Length::Round || source.up_to(15) > 0 || desk.damaged(source, to));
         }
+        let _ = going
+            && match self.length {
+                Length::Short => desk.long_services(0, source, to),
+                Length::Long => desk.long_services(300_000, source, to),
+                Length::Round => desk.any_long_service(source, to),
+                Length::Brief | Length::States => true,
+            };
     }
 
     fn again(&mut self, name: &str, figures: &[u32], to: Ask) -> Option<bool> {
@@ -787,6 +896,8 @@ impl Part for Chains {
             ("states handed in anew in services", desk.again),
             ("states at the edges of the test", desk.at_edges),
             ("accepted frames by the paper alone", desk.by_hand),
+            ("frames of services as they are with T above 200", desk.long[0]),
+            ("first faster steps above 200 changes of a frame", desk.long[1]),
         ]
     }
 

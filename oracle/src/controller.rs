@@ -283,8 +283,8 @@ struct Desk {
     middles: Info,
     samples: usize,
     /// Frames limited by noise, by the envelope, with a first faster step, whose gain rises, falls, stays;
-    /// and frames of another shape than 1 channel of 40 samples.
-    cases: [usize; 7],
+    /// frames of another shape than 1 channel of 40 samples; and first steps that no T up to 200 allows.
+    cases: [usize; 8],
 }
 
 impl Desk {
@@ -297,7 +297,7 @@ impl Desk {
             departures: Default::default(),
             middles: GOOD,
             samples: 0,
-            cases: [0; 7],
+            cases: [0; 8],
         }
     }
 
@@ -359,20 +359,27 @@ impl Desk {
         };
         let mut samples = frame.untouched();
         if reply == DONE {
-            let mut ours = frame.sound();
-            let seen = self.now.state.process(info, &mut ours).unwrap_or_else(|| {
-                judge::object(&mut self.unlike, format!("no applier in frame {}", self.tally.frames()));
-                Seen::default()
-            });
-            samples = sound::flat(&ours);
+            let (seen, ours) = self.go(info, frame);
+            samples = ours;
             self.count(&seen, frame);
-            self.beside(info, frame, &samples);
         }
         self.tally.frame(judge::is_speech(info.at(0)), reply, self.now.rust.is_some());
         let mut figures = vec![frame.channels, frame.samples];
         figures.extend(info.0);
         figures.extend(&frame.data);
         self.put("controller.process", &figures, reply, &samples, to)
+    }
+
+    /// An accepted frame, with the Rust's two beside where they go along: what happened, and the samples.
+    fn go(&mut self, info: &Info, frame: &Frame) -> (Seen, Vec<u32>) {
+        let mut ours = frame.sound();
+        let seen = self.now.state.process(info, &mut ours).unwrap_or_else(|| {
+            judge::object(&mut self.unlike, format!("no applier in frame {}", self.tally.frames()));
+            Seen::default()
+        });
+        let samples = sound::flat(&ours);
+        self.beside(info, frame, &samples);
+        (seen, samples)
     }
 
     fn count(&mut self, seen: &Seen, frame: &Frame) {
@@ -385,6 +392,7 @@ impl Desk {
             seen.change < 0.0,
             seen.change == 0.0,
             frame.data.len() != 40,
+            seen.first && seen.change > 200.5 * self.now.state.change,
         ];
         for (count, one) in self.cases.iter_mut().zip(all) {
             *count += one as usize;
@@ -426,6 +434,30 @@ impl Desk {
         for (x, y) in here.iter().flatten().zip(there.iter().flatten()) {
             self.departures[2].note(*x, *y, || format!("frame {}", number));
         }
+    }
+
+    /// The first faster step: new ones with a threshold, each with a change per second and an initial gain from which there
+    /// is far to go, over one run that is longer than the threshold. The changes are the ends, the usual one and such that
+    /// 3,000 of a frame's are less than there is to go.
+    fn faster(&mut self, threshold: u32, source: &mut Random, to: Ask) -> bool {
+        let info = GOOD.with(1, (-120.0_f32).to_bits()).with(3, (-150.0_f32).to_bits());
+        [0.01_f32, 0.5, 1.0, 6.0, 100.0].iter().all(|change| {
+            [0.0_f32, 15.0, 49.0].iter().all(|initial| {
+                let mut settings = Settings::USUAL;
+                settings.0[2] = initial.to_bits();
+                settings.0[3] = change.to_bits();
+                self.fresh(settings, threshold, to)
+                    && (0..threshold + 3).all(|i| {
+                        let frame = short_frame(source);
+                        let going = self.process(&info, &frame, to);
+                        let rises = self.now.state.gain > *initial;
+                        if rises != (i + 1 >= threshold) {
+                            judge::object(&mut self.unlike, format!("T {}: the gain in frame {} of a run", threshold, i + 1));
+                        }
+                        going
+                    })
+            })
+        })
     }
 }
 
@@ -474,6 +506,17 @@ impl Judge for Desk {
         self.call("controller.set", &figures, DONE, to)
     }
 
+    fn after_speech(&mut self, threshold: u32, frames: u32, source: &mut Random, to: Ask) -> bool {
+        self.now = Trio::new(Settings::any(source), threshold);
+        for _ in 0..frames {
+            let info = self.middles.with(0, judge::probability(true, source));
+            let frame = short_frame(source);
+            self.go(&info, &frame);
+        }
+        let figures = self.now.state.figures();
+        self.call("controller.set", &figures, DONE, to)
+    }
+
     /// A controller has no reset: a new one with the same settings.
     fn reset(&mut self, to: Ask) -> bool {
         let state = self.now.state;
@@ -481,7 +524,7 @@ impl Judge for Desk {
     }
 
     fn hand_in(&mut self, source: &mut Random, to: Ask) -> bool {
-        let threshold = judge::one_of(&judge::THRESHOLDS, source);
+        let threshold = judge::any_threshold(source);
         let mut state = State::new(Settings::any(source), threshold);
         let factors = [0x0000_0001, 0x43b1_8000, 0x3f80_0000, source.up_to(0x43b1_7fff) + 1];
         state.applier.clip = source.up_to(1) == 1;
@@ -558,7 +601,7 @@ impl Judge for Desk {
         let wrong = Settings::wrong();
         wrong.into_iter().all(|settings| self.fresh(settings, 2, to))
             && judge::WRONG_THRESHOLDS.iter().all(|&t| self.fresh(Settings::USUAL, t, to))
-            && [1, 200].iter().all(|&t| self.fresh(Settings::USUAL, t, to))
+            && judge::GOOD_THRESHOLDS.iter().all(|&t| self.fresh(Settings::USUAL, t, to))
             && Settings::ends().into_iter().all(|settings| {
                 self.fresh(settings, 2, to) && judge::run(self, 2, 0, source, to)
             })
@@ -603,10 +646,10 @@ pub fn edges() -> Edges {
     good.waiting = 0;
     let mut all = Edges::of(good.figures());
     Settings::add_edges(&mut all, 5, SETTINGS, &|settings| (CHANGE, bits(change(settings))));
-    all.at("controller threshold", THRESHOLD, &[1, 200], &judge::WRONG_THRESHOLDS);
+    all.at("controller threshold", THRESHOLD, &judge::GOOD_THRESHOLDS, &judge::WRONG_THRESHOLDS);
     let usual = change(&Settings::USUAL);
     all.at("controller change per frame", CHANGE, &[usual.to_bits()], &[clauses::below(usual), clauses::above(usual), 0, NAN]);
-    for (threshold, waiting) in [(3, 0), (3, 3), (200, 200), (1, 1), (3, 4), (200, 201), (1, 2), (3, u32::MAX)] {
+    for (threshold, waiting) in judge::COUNTS {
         all.with("controller waiting count", waiting <= threshold, &[(THRESHOLD, threshold), (WAITING, waiting)]);
     }
     all.between("controller gain", GAIN, 0.0, 51.0);
@@ -658,8 +701,18 @@ impl Part for Controllers {
     }
 
     fn ask(&mut self, to: Ask) {
-        let frames = self.length.of(20_000, 400_000, 50_000);
-        judge::play(&mut self.desk, self.seed, self.length, frames, to);
+        let frames = self.length.frames(20_000, 400_000, 50_000);
+        let thresholds: &[u32] = match self.length {
+            Length::Short => &[200, 201, judge::LARGEST_THRESHOLD],
+            Length::Long => &[1, 2, 200, 201, 256, 1500, 2999, judge::LARGEST_THRESHOLD],
+            _ => &[],
+        };
+        let source = &mut Random::new(self.seed);
+        let going = thresholds.iter().all(|&t| self.desk.faster(t, source, to));
+        if going && !thresholds.is_empty() && self.desk.cases[7] == 0 {
+            judge::object(&mut self.desk.unlike, "no first step is above what a T of 200 allows".to_string());
+        }
+        let _ = going && judge::play(&mut self.desk, self.seed, self.length, frames, to);
     }
 
     fn again(&mut self, name: &str, figures: &[u32], to: Ask) -> Option<bool> {
@@ -693,12 +746,12 @@ impl Part for Controllers {
     }
 
     fn notes(&self) -> Vec<String> {
-        let [noise, envelope, first, up, down, same, shapes] = self.desk.cases;
+        let [noise, envelope, first, up, down, same, shapes, faster] = self.desk.cases;
         let mut all = vec![
             self.desk.tally.note(),
             format!(
-                "of the frames {} are limited by the noise, {} by the envelope, {} end the waiting; in {} the gain rises, in {} it falls, in {} it stays; {} have another shape than 1 channel of 40",
-                noise, envelope, first, up, down, same, shapes
+                "of the frames {} are limited by the noise, {} by the envelope, {} end the waiting, {} of them with a step above 200 changes of a frame; in {} the gain rises, in {} it falls, in {} it stays; {} have another shape than 1 channel of 40",
+                noise, envelope, first, faster, up, down, same, shapes
             ),
         ];
         for (found, what) in self.desk.departures.iter().zip(["the gain in dB", "the gain factor", "the samples"]) {

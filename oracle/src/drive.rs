@@ -15,6 +15,8 @@ pub type Ask<'a> = &'a mut dyn FnMut(String, String) -> bool;
 /// How much a run asks.
 #[derive(Clone, Copy, PartialEq)]
 pub enum Length {
+    /// Fixed questions, and a few random ones: enough for a test of the comparison itself.
+    Brief,
     /// Fixed questions, and some random ones.
     Short,
     /// All fixed questions, and many random ones.
@@ -29,10 +31,15 @@ impl Length {
     /// What goes with it.
     pub fn of<T>(self, short: T, long: T, round: T) -> T {
         match self {
-            Length::Short | Length::States => short,
+            Length::Brief | Length::Short | Length::States => short,
             Length::Long => long,
             Length::Round => round,
         }
+    }
+
+    /// The same for a number of random frames.
+    pub fn frames(self, short: usize, long: usize, round: usize) -> usize {
+        self.of(short, long, round) / if self == Length::Brief { 10 } else { 1 }
     }
 }
 

@@ -7,15 +7,60 @@ use crate::drive::{Ask, Length};
 use crate::lines::{bits, DONE, FIGURE, SAMPLE, SETTING, SHAPE};
 use crate::random::Random;
 
-/// The thresholds that sequences are played with.
-pub const THRESHOLDS: [u32; 8] = [1, 2, 3, 12, 40, 41, 42, 200];
+/// "a run threshold of up to 3,000 frames": the largest threshold of a chain and of each of its parts.
+pub const LARGEST_THRESHOLD: u32 = 3000;
 
-/// "T 1 to 200".
-pub fn is_threshold(t: u32) -> bool {
-    (1..=200).contains(&t)
+/// The thresholds that sequences are played with, in their order.
+pub const THRESHOLDS: [u32; 11] = [1, 2, 3, 12, 40, 41, 42, 200, 201, 1500, LARGEST_THRESHOLD];
+
+/// How many of them are short, and how many shorter still: a brief run has these alone.
+const SHORT_THRESHOLDS: usize = 9;
+const BRIEF_THRESHOLDS: usize = 7;
+
+/// Any of the short ones.
+pub fn short_threshold(source: &mut Random) -> u32 {
+    one_of(&THRESHOLDS[..SHORT_THRESHOLDS], source)
 }
 
-pub const WRONG_THRESHOLDS: [u32; 4] = [0, 201, 1 << 31, u32::MAX];
+/// In most cases a short one, since a run of the others takes long.
+pub fn any_threshold(source: &mut Random) -> u32 {
+    match source.up_to(7) {
+        0 => one_of(&THRESHOLDS, source),
+        _ => short_threshold(source),
+    }
+}
+
+/// Thresholds at and beside those where a number of 8 bits or fewer bits of a wider one end, and at the largest.
+const MORE_THRESHOLDS: [u32; 14] = [199, 202, 255, 256, 257, 300, 511, 512, 1023, 1024, 2047, 2048, 2049, 2999];
+
+pub fn is_threshold(t: u32) -> bool {
+    (1..=LARGEST_THRESHOLD).contains(&t)
+}
+
+/// Beside the ends, and far from them: also what ends as a small number does.
+pub const WRONG_THRESHOLDS: [u32; 7] = [0, LARGEST_THRESHOLD + 1, 4096, 0xffff, 0x1_0002, 1 << 31, u32::MAX];
+
+/// Thresholds that are accepted: the ends, and those where version 1 of a strip, and a byte, end.
+pub const GOOD_THRESHOLDS: [u32; 7] = [LARGEST_THRESHOLD, 1, 200, 201, 255, 256, 300];
+
+/// A threshold with a count: just inside and just outside of "run and waiting counts 0 to T".
+pub const COUNTS: [(u32, u32); 15] = [
+    (LARGEST_THRESHOLD, LARGEST_THRESHOLD),
+    (LARGEST_THRESHOLD, LARGEST_THRESHOLD - 1),
+    (LARGEST_THRESHOLD, 201),
+    (LARGEST_THRESHOLD, 0),
+    (3, 0),
+    (3, 3),
+    (200, 200),
+    (1, 1),
+    (LARGEST_THRESHOLD, LARGEST_THRESHOLD + 1),
+    (3, 4),
+    (200, 201),
+    (1, 2),
+    (LARGEST_THRESHOLD, 0xffff),
+    (1500, LARGEST_THRESHOLD),
+    (3, u32::MAX),
+];
 
 /// "Larger, smaller and clamp keep the first operand when equal."
 pub fn larger(x: f32, y: f32) -> f32 {
@@ -267,8 +312,9 @@ pub struct Tally {
     pub by_hand: usize,
     pub refused: [usize; 5],
     pub others: usize,
-    /// Runs shorter than T - 1, of T - 1, T, T + 1, and longer.
+    /// Runs shorter than T - 1, of T - 1, T, T + 1, and longer: all, and those with T above 200.
     runs: [usize; 5],
+    late_runs: [usize; 5],
 }
 
 impl Tally {
@@ -292,8 +338,9 @@ impl Tally {
     }
 
     fn run(&mut self, threshold: u32, length: u32) {
-        let which = (length + 2).saturating_sub(threshold).min(4);
-        self.runs[which as usize] += 1;
+        let which = (length + 2).saturating_sub(threshold).min(4) as usize;
+        self.runs[which] += 1;
+        self.late_runs[which] += (threshold > 200) as usize;
     }
 
     pub fn kinds(&self) -> Vec<(&'static str, usize)> {
@@ -312,11 +359,10 @@ impl Tally {
     }
 
     pub fn note(&self) -> String {
-        let [less, short, at, past, longer] = self.runs;
-        format!(
-            "runs by their length: {} one short of T, {} at T, {} one past it, {} shorter, {} longer",
-            short, at, past, less, longer
-        )
+        let lengths = |[less, short, at, past, longer]: [usize; 5]| {
+            format!("{} one short of T, {} at T, {} one past it, {} shorter, {} longer", short, at, past, less, longer)
+        };
+        format!("runs by their length: {}; of these with T above 200: {}", lengths(self.runs), lengths(self.late_runs))
     }
 }
 
@@ -330,6 +376,8 @@ pub trait Judge {
     fn renew(&mut self, threshold: u32, source: &mut Random, to: Ask) -> bool;
     /// Goes on in the Rust with another state, which is handed in.
     fn swap(&mut self, to: Ask) -> bool;
+    /// The same with the state that so many speech frames bring about from a new one, which are not asked about.
+    fn after_speech(&mut self, threshold: u32, frames: u32, source: &mut Random, to: Ask) -> bool;
     fn reset(&mut self, to: Ask) -> bool;
     /// Hands in a state that passes and that the Rust is not brought to.
     fn hand_in(&mut self, source: &mut Random, to: Ask) -> bool;
@@ -379,6 +427,24 @@ fn boundaries(judge: &mut dyn Judge, threshold: u32, source: &mut Random, to: As
             && run(judge, n, 2, source, to)
             && run(judge, threshold, 1, source, to)
     })
+}
+
+/// Runs one short of a threshold, at it, one past it and longer, each of which begins in a state that is handed in two
+/// frames short of the threshold or at it.
+fn near_threshold(judge: &mut dyn Judge, t: u32, source: &mut Random, to: Ask) -> bool {
+    [(t - 2, 1), (t - 2, 2), (t - 2, 3), (t + 50, 2)].iter().all(|&(before, more)| {
+        judge.turn(source);
+        let going = judge.after_speech(t, before, source, to)
+            && (0..=more).all(|i| judge.frame(probability(i < more, source), source, to));
+        judge.tally().run(t, before + more);
+        going
+    })
+}
+
+/// One after the other, and all of their frames asked about: runs one short of a threshold, at it, one past it, one short
+/// of it again, of one frame, and far longer.
+fn whole_runs(judge: &mut dyn Judge, t: u32, source: &mut Random, to: Ask) -> bool {
+    judge.renew(t, source, to) && [t - 1, t, t + 1, t - 1, 1, t + 700].iter().all(|&n| run(judge, n, 1, source, to))
 }
 
 /// Runs one short of a threshold, at it and one past it, many in a row, and others, in so many frames.
@@ -433,19 +499,31 @@ fn at_edges(judge: &mut dyn Judge, few: bool, source: &mut Random, to: Ask) -> b
     true
 }
 
-/// What a run asks, in so many frames. A round has random runs alone.
+/// What a run asks, in so many frames and at least some runs of each threshold. A round has random runs alone.
 pub fn play(judge: &mut dyn Judge, seed: u64, length: Length, frames: usize, to: Ask) -> bool {
     let source = &mut Random::new(seed);
     let fixed = length != Length::Round;
     if length == Length::States {
         return at_edges(judge, false, source, to);
     }
+    let brief = length == Length::Brief;
+    let thresholds = &THRESHOLDS[..if brief { BRIEF_THRESHOLDS } else { THRESHOLDS.len() }];
+    let share = |t: u32| (frames / SHORT_THRESHOLDS).max(6 * t as usize);
     judge.renew(2, source, to)
         && (!fixed || judge.each_figure(source, to))
         && (!fixed || judge.each_setting(source, to))
         && (!fixed || at_edges(judge, false, source, to))
-        && THRESHOLDS.iter().all(|&t| boundaries(judge, t, source, to))
-        && THRESHOLDS.iter().all(|&t| runs(judge, t, frames / THRESHOLDS.len(), source, to))
+        && (brief || !fixed || MORE_THRESHOLDS.iter().all(|&t| near_threshold(judge, t, source, to)))
+        && (brief || !fixed || thresholds.iter().all(|&t| whole_runs(judge, t, source, to)))
+        && (brief || thresholds.iter().all(|&t| boundaries(judge, t, source, to)))
+        && thresholds.iter().all(|&t| runs(judge, t, share(t), source, to))
+        && (length != Length::Long || sweep(judge, source, to))
+}
+
+/// Each of more thresholds, and any others above 200, with runs that are asked about as a whole.
+fn sweep(judge: &mut dyn Judge, source: &mut Random, to: Ask) -> bool {
+    let others: Vec<u32> = (0..40).map(|_| 201 + source.up_to(LARGEST_THRESHOLD - 201)).collect();
+    MORE_THRESHOLDS.iter().chain(&others).all(|&t| whole_runs(judge, t, source, to))
 }
 
 /// The questions of the fixed list that all have: each figure's ends, each setting's, states at the edges of the
@@ -467,6 +545,7 @@ pub fn list(judge: &mut dyn Judge, seed: u64, thresholds: &[u32], to: Ask) {
         judge.hand_in(source, to);
         run(judge, t, 1, source, to);
     }
+    near_threshold(judge, LARGEST_THRESHOLD, source, to);
 }
 
 /// The values in the Rust's `Debug` form, in their order: floats as their bits. None where the names are

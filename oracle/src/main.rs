@@ -6,7 +6,7 @@
 //!                                         wrong program, what it would answer if the test of a handed-in state had
 //!                                         no such clause
 //!   oracle clauses PART                   the clauses of a part's test, each of which the comparison looks at
-//!   oracle compare [--seed N] [--only PART] --short|--long|--states -- COMMAND..
+//!   oracle compare [--seed N] [--only PART] --brief|--short|--long|--states -- COMMAND..
 //!                                         asks COMMAND and the Rust, and compares bit by bit; --states asks about
 //!                                         the test of a handed-in state alone
 //!   oracle scale [--seed N] [--minutes M | --rounds R] [--only PART] -- COMMAND..
@@ -18,9 +18,10 @@
 //!                                         that no single question of them can be left out, and that samples
 //!                                         which do not matter are 0; other questions may still be fewer
 //!   oracle strip                          reads a strip, and prints what the program `strip` must print
-//!   oracle strips [--seed N] [--count N] -- COMMAND..
+//!   oracle strips [--seed N] [--count N] [--first] -- COMMAND..
 //!                                         runs COMMAND on the fixed strips and on so many random ones
-//!                                         (2000), and compares byte for byte
+//!                                         (2000), and compares byte for byte; with --first no further than
+//!                                         a strip that differs
 //!   oracle recording STRIP                reads a WAV file, and writes what the program `recording` must write
 //!
 //! A part that is added has a file of its own, with its questions and the answers that are due, and
@@ -58,10 +59,10 @@ use std::process::exit;
 const USAGE: &str = "usage: oracle list questions|answers
        oracle replay [--without CLAUSE]
        oracle clauses PART
-       oracle compare [--seed N] [--only PART] --short|--long|--states -- COMMAND..
+       oracle compare [--seed N] [--only PART] --brief|--short|--long|--states -- COMMAND..
        oracle scale [--seed N] [--minutes M | --rounds R] [--only PART] -- COMMAND..
        oracle strip
-       oracle strips [--seed N] [--count N] -- COMMAND..
+       oracle strips [--seed N] [--count N] [--first] -- COMMAND..
        oracle recording STRIP";
 
 fn usage() -> ! {
@@ -89,6 +90,7 @@ fn wish(words: &[String]) -> Wish {
                 Some(name) => only = Some(name.clone()),
                 None => usage(),
             },
+            "--brief" => length = Some(Length::Brief),
             "--short" => length = Some(Length::Short),
             "--long" => length = Some(Length::Long),
             "--states" => length = Some(Length::States),
@@ -135,15 +137,16 @@ fn scale_wish(words: &[String]) -> scale::Wish {
     }
 }
 
-/// What `oracle strips` is asked for: the seed, how many random strips, and the command.
-fn strips_wish(words: &[String]) -> (u64, usize, Vec<String>) {
-    let (mut seed, mut count) = (1, 2000);
+/// What `oracle strips` is asked for.
+fn strips_wish(words: &[String]) -> strips::Wish {
+    let (mut seed, mut count, mut first) = (1, 2000, false);
     let mut rest = words.iter();
     while let Some(word) = rest.next() {
         let mut number = || rest.next().and_then(|n| n.parse().ok()).unwrap_or_else(|| usage());
         match word.as_str() {
             "--seed" => seed = number(),
             "--count" => count = number() as usize,
+            "--first" => first = true,
             "--" => break,
             _ => usage(),
         }
@@ -152,7 +155,12 @@ fn strips_wish(words: &[String]) -> (u64, usize, Vec<String>) {
     if command.is_empty() {
         usage();
     }
-    (seed, count, command)
+    strips::Wish {
+        seed,
+        count,
+        first,
+        command,
+    }
 }
 
 /// The parts, in document 01's order.
@@ -175,6 +183,7 @@ fn parts(seed: u64, length: Length) -> Vec<Box<dyn Part>> {
 fn compare_part(wish: &Wish, part: &mut dyn Part) -> usize {
     let length = match wish.length {
         Length::States => "states",
+        Length::Brief => "brief",
         length => length.of("short", "long", "round"),
     };
     println!("{}, {} run, seed {}, {}:", part.name(), length, wish.seed, std::env::consts::ARCH);
@@ -270,8 +279,8 @@ fn main() {
             }
         }
         Some("strips") => {
-            let (seed, count, command) = strips_wish(&words[1..]);
-            exit(if strips::compare(seed, count, &command) { 0 } else { 1 });
+            let good = strips::compare(&strips_wish(&words[1..]));
+            exit(if good { 0 } else { 1 });
         }
         Some("recording") if words.len() == 2 => {
             let (mut input, mut output) = (BufReader::new(stdin()), BufWriter::new(stdout()));

@@ -305,6 +305,15 @@ impl Trio {
     fn alone(state: State) -> Trio {
         Trio { state, rust: None }
     }
+
+    /// Answers whether a peak was pushed.
+    fn analyze(&mut self, p: f32, peak: f32, level: f32) -> bool {
+        if let Some((one, other)) = &mut self.rust {
+            one.analyze(p, peak, level);
+            other.analyze(p, peak, level);
+        }
+        self.state.analyze(p, peak, level)
+    }
 }
 
 struct Desk {
@@ -386,12 +395,10 @@ impl Desk {
             let speech = judge::is_speech(p);
             let before = self.now.state.preliminary.largest;
             self.cases[2] += (speech && before == 0.0 && x == 0.0 && before.to_bits() != x.to_bits()) as usize;
-            self.cases[1] += self.now.state.analyze(p, x, y) as usize;
+            self.cases[1] += self.now.analyze(p, x, y) as usize;
             let state = &self.now.state;
             self.cases[0] += (speech && state.count == state.threshold) as usize;
-            if let Some((one, other)) = &mut self.now.rust {
-                one.analyze(p, x, y);
-                other.analyze(p, x, y);
+            if let Some((_, other)) = &self.now.rust {
                 let frame = self.tally.frames();
                 self.departure.note(state.headroom, other.headroom_db(), || format!("frame {}", frame));
             }
@@ -437,6 +444,17 @@ impl Judge for Desk {
         self.call("protector.set", &figures, DONE, to)
     }
 
+    fn after_speech(&mut self, threshold: u32, frames: u32, source: &mut Random, to: Ask) -> bool {
+        self.now = Trio::new(20.0, threshold);
+        for _ in 0..frames {
+            let p = judge::probability(true, source);
+            let [p, peak, level] = [p, LEVEL.any(self.peak, source), LEVEL.any(self.level, source)].map(f32::from_bits);
+            self.now.analyze(p, peak, level);
+        }
+        let figures = self.now.state.figures();
+        self.call("protector.set", &figures, DONE, to)
+    }
+
     fn reset(&mut self, to: Ask) -> bool {
         let reply = if self.now.state.passes() {
             let state = &mut self.now.state;
@@ -456,7 +474,7 @@ impl Judge for Desk {
     }
 
     fn hand_in(&mut self, source: &mut Random, to: Ask) -> bool {
-        let threshold = judge::one_of(&judge::THRESHOLDS, source);
+        let threshold = judge::any_threshold(source);
         let mut state = State::new(f32::from_bits(judge::one_of(HEADROOM.ends, source)), threshold);
         state.headroom = f32::from_bits(judge::one_of(HEADROOM.ends, source));
         state.count = judge::one_of(&[0, 1, threshold - 1, threshold], source);
@@ -516,7 +534,7 @@ impl Judge for Desk {
         let twenty = 20.0_f32.to_bits();
         judge::WRONG_THRESHOLDS.iter().all(|&t| self.fresh(twenty, t, to) && self.fresh(0x7fc0_0000, t, to))
             && HEADROOM.wrong.iter().all(|&x| self.fresh(x, 2, to))
-            && [1, 200].iter().all(|&t| self.fresh(twenty, t, to))
+            && judge::GOOD_THRESHOLDS.iter().all(|&t| self.fresh(twenty, t, to))
             && HEADROOM.ends.iter().all(|&x| {
                 self.fresh(x, 2, to) && judge::run(self, 1, 1, source, to) && judge::run(self, 3, 1, source, to)
             })
@@ -545,8 +563,8 @@ impl Judge for Desk {
 pub fn edges() -> Edges {
     let mut all = Edges::of(State::new(20.0, 3).figures());
     all.above_zero("protector initial headroom", 0, 100.0);
-    all.at("protector threshold", 1, &[1, 200], &judge::WRONG_THRESHOLDS);
-    for (threshold, count) in [(3, 0), (3, 3), (200, 200), (1, 1), (3, 4), (200, 201), (1, 2), (3, u32::MAX)] {
+    all.at("protector threshold", 1, &judge::GOOD_THRESHOLDS, &judge::WRONG_THRESHOLDS);
+    for (threshold, count) in judge::COUNTS {
         all.with("protector count", count <= threshold, &[(1, threshold), (2, count)]);
     }
     all.above_zero("protector headroom", 3, 100.0);
@@ -615,7 +633,7 @@ impl Part for Protectors {
     }
 
     fn ask(&mut self, to: Ask) {
-        let frames = self.length.of(60_000, 1_000_000, 200_000);
+        let frames = self.length.frames(60_000, 1_000_000, 200_000);
         let _ = (matches!(self.length, Length::Round | Length::States) || zeros(&mut self.desk, to))
             && judge::play(&mut self.desk, self.seed, self.length, frames, to);
     }

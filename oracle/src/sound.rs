@@ -410,7 +410,7 @@ pub fn run(player: &mut dyn Player, seed: u64, length: Length, samples: usize, t
         Length::Round => return sequence(player, source, samples, to),
         Length::States => return at_edges(player, false, source, to),
         Length::Long => &[(40, &every), (60, &every), (160, &every), (480, &every)],
-        Length::Short => &[(40, &every), (480, &[0, 19])],
+        Length::Brief | Length::Short => &[(40, &every), (480, &[0, 19])],
     };
     shapes.iter().all(|&(n, parts)| each_place(player, n, parts, source, to))
         && [1, 2, 8].iter().all(|&channels| play_damaged(player, channels, 1, source, to))

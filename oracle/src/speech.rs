@@ -256,6 +256,14 @@ impl Trio {
     fn alone(state: State) -> Trio {
         Trio { state, rust: None }
     }
+
+    fn update(&mut self, rms: f32, p: f32) {
+        self.state.update(rms, p);
+        if let Some((one, other)) = &mut self.rust {
+            one.update(rms, p);
+            other.update(rms, p);
+        }
+    }
 }
 
 struct Desk {
@@ -328,13 +336,11 @@ impl Desk {
         } else {
             let speech = judge::is_speech(p);
             self.cases[1] += (speech && self.now.state.preliminary.left == 0) as usize;
-            self.now.state.update(x, p);
+            self.now.update(x, p);
             let state = &self.now.state;
             self.cases[0] += (speech && state.count == state.threshold) as usize;
             self.cases[2] += state.confident as usize;
-            if let Some((one, other)) = &mut self.now.rust {
-                one.update(x, p);
-                other.update(x, p);
+            if let Some((_, other)) = &self.now.rust {
                 let frame = self.tally.frames();
                 self.departure.note(state.level, other.level_dbfs(), || format!("frame {}", frame));
             }
@@ -375,6 +381,16 @@ impl Judge for Desk {
         self.call("speech.set", &figures, DONE, to)
     }
 
+    fn after_speech(&mut self, threshold: u32, frames: u32, source: &mut Random, to: Ask) -> bool {
+        self.now = Trio::new(Settings::any(source), threshold);
+        for _ in 0..frames {
+            let (rms, p) = (RMS.any(self.middle, source), judge::probability(true, source));
+            self.now.update(f32::from_bits(rms), f32::from_bits(p));
+        }
+        let figures = self.now.state.figures();
+        self.call("speech.set", &figures, DONE, to)
+    }
+
     fn reset(&mut self, to: Ask) -> bool {
         let state = self.now.state;
         let reply = if state.passes() {
@@ -391,7 +407,7 @@ impl Judge for Desk {
     }
 
     fn hand_in(&mut self, source: &mut Random, to: Ask) -> bool {
-        let threshold = judge::one_of(&judge::THRESHOLDS, source);
+        let threshold = judge::any_threshold(source);
         let mut state = State::new(Settings::any(source), threshold);
         for one in [&mut state.preliminary, &mut state.reliable] {
             one.left = 10 * judge::one_of(&[0, 1, 2, 20, 39, 40], source);
@@ -448,7 +464,7 @@ impl Judge for Desk {
         let wrong = Settings::wrong();
         wrong.into_iter().all(|settings| self.fresh(settings, 2, to))
             && judge::WRONG_THRESHOLDS.iter().all(|&t| self.fresh(Settings::USUAL, t, to))
-            && [1, 200].iter().all(|&t| self.fresh(Settings::USUAL, t, to))
+            && judge::GOOD_THRESHOLDS.iter().all(|&t| self.fresh(Settings::USUAL, t, to))
             && Settings::ends().into_iter().all(|settings| {
                 self.fresh(settings, 2, to) && judge::run(self, 1, 1, source, to) && judge::run(self, 3, 1, source, to)
             })
@@ -482,12 +498,12 @@ const COUNT: usize = 15;
 pub fn edges() -> Edges {
     let mut all = Edges::of(State::new(Settings::USUAL, 3).figures());
     Settings::add_edges(&mut all, 0, SETTINGS, &|settings| (INITIAL, bits(starting(settings))));
-    all.at("speech threshold", THRESHOLD, &[1, 200], &judge::WRONG_THRESHOLDS);
+    all.at("speech threshold", THRESHOLD, &judge::GOOD_THRESHOLDS, &judge::WRONG_THRESHOLDS);
     let usual = starting(&Settings::USUAL);
     all.at("speech starting level", INITIAL, &[usual.to_bits()], &[clauses::below(usual), clauses::above(usual), NAN, 0]);
     all.between("speech level", LEVEL, -90.0, 30.0);
     all.at("speech level", LEVEL, &[0, MINUS_ZERO], &[]);
-    for (threshold, count) in [(3, 0), (3, 3), (200, 200), (1, 1), (3, 4), (200, 201), (1, 2), (3, u32::MAX)] {
+    for (threshold, count) in judge::COUNTS {
         all.with("speech count", count <= threshold, &[(THRESHOLD, threshold), (COUNT, count)]);
     }
     for (place, [time, weight, sum]) in [(7, PRELIMINARY), (10, RELIABLE)] {
@@ -571,7 +587,7 @@ impl Part for Speeches {
     }
 
     fn ask(&mut self, to: Ask) {
-        let frames = self.length.of(60_000, 1_000_000, 200_000);
+        let frames = self.length.frames(60_000, 1_000_000, 200_000);
         judge::play(&mut self.desk, self.seed, self.length, frames, to);
     }
 

@@ -1,5 +1,5 @@
-//! The strip: a reader that is written from document 01's text and shares nothing with the Rattle crates,
-//! and the lines that the program `strip` must print for what it reads, from the ruled Rust's chain over
+//! The strip, in both of its versions: a reader that is written from the text of documents 01 and 02 and shares nothing
+//! with the Rattle crates, and the lines that the program `strip` must print for what it reads, from the ruled Rust's chain over
 //! silent frames of one channel.
 //!
 //! It goes through a strip of any length with the memory of one record.
@@ -15,12 +15,43 @@ pub const CUT: u32 = 5;
 pub const LENGTH: u32 = 6;
 pub const VERSION: u32 = 7;
 
-/// The bytes of a head and of a record, each with the two of its length.
-pub const HEAD: usize = 26;
+/// The bytes of a record, with the two of its length.
 pub const RECORD: usize = 22;
+
+/// The largest threshold that a strip of version 1 can say: "Version 1 strips are still read, with T to 200 as before".
+pub const LARGEST_IN_VERSION_1: u32 = 200;
+
+/// A version of the strip: its number, the length that stands in its head, and the largest threshold.
+pub struct Version {
+    pub number: u8,
+    pub length: u32,
+    pub largest: u32,
+}
+
+/// "Version 2 of the strip has head length 25 and T in two bytes".
+pub const VERSIONS: [Version; 2] = [
+    Version {
+        number: 1,
+        length: 24,
+        largest: LARGEST_IN_VERSION_1,
+    },
+    Version {
+        number: 2,
+        length: 25,
+        largest: judge::LARGEST_THRESHOLD,
+    },
+];
+
+impl Version {
+    /// The bytes of a head, with the two of its length.
+    pub fn head(&self) -> usize {
+        self.length as usize + 2
+    }
+}
 
 /// What a head says.
 pub struct Head {
+    pub version: u8,
     pub threshold: u32,
     pub samples: u32,
     pub settings: Settings,
@@ -51,30 +82,38 @@ fn two(bytes: &[u8], from: usize) -> u32 {
     (bytes[from] as u32) << 8 | bytes[from + 1] as u32
 }
 
-/// "fewer than 3 bytes 5; version 7; head length 6; cut 5; then 1, 4".
+/// "fewer than 3 bytes 5; version 7; head length 6; cut 5; then 1, 4", where "7 now means neither 1 nor 2; head length is
+/// judged after the version, 24 or 25".
 pub fn head(input: &mut dyn Read) -> io::Result<Reply<Head>> {
     let mut bytes = take(input, 3)?;
     if bytes.len() < 3 {
         return Ok(Err(CUT));
     }
-    if bytes[2] != 1 {
-        return Ok(Err(VERSION));
-    }
-    if two(&bytes, 0) != 24 {
+    let version = match VERSIONS.iter().find(|version| version.number == bytes[2]) {
+        Some(version) => version,
+        None => return Ok(Err(VERSION)),
+    };
+    if two(&bytes, 0) != version.length {
         return Ok(Err(LENGTH));
     }
-    bytes.extend(take(input, HEAD - 3)?);
-    if bytes.len() < HEAD {
+    bytes.extend(take(input, version.head() - 3)?);
+    if bytes.len() < version.head() {
         return Ok(Err(CUT));
     }
+    // T has one byte in version 1 and two in version 2; the rest is the same.
+    let (threshold, rest) = match version.number {
+        1 => (bytes[3] as u32, 4),
+        _ => (two(&bytes, 3), 5),
+    };
     let head = Head {
-        threshold: bytes[3] as u32,
-        samples: two(&bytes, 4),
-        settings: Settings(five(&bytes, 6)),
+        version: version.number,
+        threshold,
+        samples: two(&bytes, rest),
+        settings: Settings(five(&bytes, rest + 2)),
     };
     Ok(if !sound::is_samples(head.samples) {
         Err(SHAPE)
-    } else if !(head.settings.accepted() && judge::is_threshold(head.threshold)) {
+    } else if !(head.settings.accepted() && (1..=version.largest).contains(&threshold)) {
         Err(SETTING)
     } else {
         Ok(head)
@@ -131,6 +170,8 @@ pub struct Seen {
     pub kinds: [usize; 3],
     /// The record that is refused, or 0 for the head, and the reply's number.
     pub refused: Option<(usize, u32)>,
+    /// The version and the threshold of a head that is not refused.
+    pub head: Option<(u8, u32)>,
 }
 
 /// Reads a strip, and writes what the program must print for it.
@@ -141,6 +182,7 @@ pub fn print(input: &mut dyn Read, output: &mut dyn Write) -> io::Result<Seen> {
         Err(reply) => reply,
         Ok(head) => {
             let mut chain = ruled::Chain::new(&head.settings, head.threshold, head.samples);
+            seen.head = Some((head.version, head.threshold));
             let mut run = 0;
             loop {
                 number += 1;

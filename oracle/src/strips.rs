@@ -1,6 +1,6 @@
 //! Strips for the program `strip`, each run through it once and compared byte for byte with what strip.rs
 //! has: fixed ones, in which each thing that a strip can have wrong stands alone, and random ones, which are
-//! whole services and damaged ones.
+//! whole services and damaged ones. About half of them are of version 1, and half of version 2.
 //!
 //! A random strip depends on the seed and on its own number alone, so a run finds the same strips whatever
 //! the number of cores.
@@ -9,7 +9,7 @@ use crate::chain::{self, Figures, Passage};
 use crate::judge::{self, fraction, one_of, Settings, ENVELOPE, LEVEL, PROBABILITY, RMS};
 use crate::random::Random;
 use crate::sound;
-use crate::strip::{self, Seen, HEAD, RECORD};
+use crate::strip::{self, Seen, Version, RECORD, VERSIONS};
 use std::io::{Read, Write};
 use std::process::{Command, Stdio};
 use std::sync::atomic::{AtomicUsize, Ordering};
@@ -20,8 +20,13 @@ type Case = (&'static str, Vec<u8>);
 
 const RANGES: [judge::Range; 5] = [PROBABILITY, RMS, LEVEL, LEVEL, ENVELOPE];
 
-fn head(threshold: u32, samples: u32, settings: Settings) -> Vec<u8> {
-    let mut all = vec![0, 24, 1, threshold as u8, (samples >> 8) as u8, samples as u8];
+fn head(version: &Version, threshold: u32, samples: u32, settings: Settings) -> Vec<u8> {
+    let mut all = vec![0, version.length as u8, version.number];
+    match version.number {
+        1 => all.push(threshold as u8),
+        _ => all.extend((threshold as u16).to_be_bytes()),
+    }
+    all.extend((samples as u16).to_be_bytes());
     all.extend(settings.0.iter().flat_map(|b| b.to_be_bytes()));
     all
 }
@@ -38,9 +43,9 @@ fn with(strip: &[u8], at: usize, byte: u8) -> Vec<u8> {
     all
 }
 
-/// The paper's worked strip.
-fn paper() -> Vec<u8> {
-    let mut all = head(2, 480, Settings::USUAL);
+/// The paper's worked strip, and its twin in version 2.
+fn paper(version: &Version) -> Vec<u8> {
+    let mut all = head(version, 2, 480, Settings::USUAL);
     for [p, rms, peak] in [[0.0, -60.0, -60.0], [1.0, -10.0, -5.0], [0.0, -60.0, -60.0], [1.0, -40.0, 0.0], [1.0, -40.0, 0.0]] {
         all.extend(record(&[p, rms, peak, -90.0, -90.0].map(f32::to_bits)));
     }
@@ -52,43 +57,66 @@ fn short(head: Vec<u8>) -> Vec<u8> {
     [head, record(&chain::GOOD), record(&chain::GOOD)].concat()
 }
 
+/// Thresholds of a head: inside and outside of both versions' ranges, at the ends of a byte, and numbers whose bytes say
+/// something else where one of them is left out or both change places.
+const HEAD_THRESHOLDS: [u32; 38] = [
+    0, 1, 2, 3, 40, 41, 42, 127, 128, 199, 200, 201, 202, 254, 255, 256, 257, 258, 300, 456, 511, 512, 768, 1024, 1500, 2816,
+    2999, 3000, 3001, 3002, 3072, 0x0c01, 0x4002, 0x7fff, 0x8000, 0xb80b, 0xff00, 0xffff,
+];
+
 /// Each thing that a head can have wrong, and each end of what it may have.
-fn fixed_heads(all: &mut Vec<Case>) {
-    let good = head(2, 480, Settings::USUAL);
+fn fixed_heads(version: &Version, all: &mut Vec<Case>) {
     for settings in Settings::ends() {
-        all.push(("a setting at its end", short(head(2, 480, settings))));
+        all.push(("a setting at its end", short(head(version, 2, 480, settings))));
     }
     for settings in Settings::wrong() {
-        all.push(("a setting that is refused", short(head(2, 480, settings))));
-        all.push(("samples and a setting that are refused", short(head(2, 20, settings))));
+        all.push(("a setting that is refused", short(head(version, 2, 480, settings))));
+        all.push(("samples and a setting that are refused", short(head(version, 2, 20, settings))));
     }
-    for threshold in [0, 1, 2, 3, 40, 41, 42, 127, 128, 199, 200, 201, 255] {
-        let mut strip = short(head(threshold, 480, Settings::USUAL));
-        for _ in 0..threshold {
-            strip.extend(record(&chain::GOOD));
+    for threshold in HEAD_THRESHOLDS {
+        if version.number == 1 && threshold > 255 {
+            continue;
+        }
+        // As many records as it takes, where it is accepted, and two more.
+        let samples = if threshold > 300 { 40 } else { 480 };
+        let mut strip = short(head(version, threshold, samples, Settings::USUAL));
+        if judge::is_threshold(threshold) {
+            (0..threshold).for_each(|_| strip.extend(record(&chain::GOOD)));
         }
         all.push(("a threshold", strip));
+        if threshold == 0 || threshold > version.largest {
+            all.push(("samples and a threshold that are refused", short(head(version, threshold, 50, Settings::USUAL))));
+        }
     }
     for samples in (0..520).step_by(20).chain([1, 39, 41, 50, 110, 479, 481, 0x2800, 0xe001, 0x8028, 0xffff]) {
-        all.push(("a number of samples", short(head(2, samples, Settings::USUAL))));
+        all.push(("a number of samples", short(head(version, 2, samples, Settings::USUAL))));
     }
-    for [high, low] in [[0, 0], [0, 23], [0, 25], [0, 26], [0, 20], [24, 0], [1, 24], [255, 255]] {
-        let strip = with(&with(&good, 0, high), 1, low);
-        all.push(("a head's length", short(strip.clone())));
-        all.push(("a head's length and its version", short(with(&strip, 2, 2))));
-        all.push(("a head's length where it is cut", strip[..9].to_vec()));
+    all.push(("a refused head that is cut", head(version, 0, 20, Settings::default())[..25].to_vec()));
+}
+
+/// The bytes that a head begins with: lengths crossed with versions, over the rest of either version's head, with two records
+/// behind it; and cut, where the length is one of the two at each byte.
+fn fixed_starts(all: &mut Vec<Case>) {
+    for [high, low] in [[0, 0], [0, 20], [0, 23], [0, 24], [0, 25], [0, 26], [24, 0], [25, 0], [1, 24], [1, 25], [255, 255]] {
+        for number in [0, 1, 2, 3, 128, 255] {
+            for version in &VERSIONS {
+                let mut strip = head(version, 2, 480, Settings::USUAL);
+                strip[..3].copy_from_slice(&[high, low, number]);
+                all.push(("a head's length and version", short(strip.clone())));
+                let is_length = VERSIONS.iter().any(|other| [0, other.length as u8] == [high, low]);
+                let cuts = if is_length && number < 4 { 0..=strip.len() } else { 3..=3 };
+                if version.number == 2 {
+                    all.extend(cuts.map(|n| ("a head's length and version where it is cut", strip[..n].to_vec())));
+                }
+            }
+        }
     }
-    for version in [0, 2, 3, 128, 255] {
-        all.push(("a version", short(with(&good, 2, version))));
-        all.push(("a version where the head is cut", with(&good[..3], 2, version)));
-    }
-    all.push(("a refused head that is cut", head(0, 20, Settings::default())[..25].to_vec()));
 }
 
 /// Each thing that a record can have wrong, and each end of what it may have.
-fn fixed_records(all: &mut Vec<Case>) {
-    let before = short(head(2, 40, Settings::USUAL));
-    let mut ends = head(1, 40, Settings::USUAL);
+fn fixed_records(version: &Version, all: &mut Vec<Case>) {
+    let before = short(head(version, 2, 40, Settings::USUAL));
+    let mut ends = head(version, 1, 40, Settings::USUAL);
     for (i, range) in RANGES.iter().enumerate() {
         let mut figures = chain::GOOD;
         for &b in range.ends {
@@ -110,19 +138,22 @@ fn fixed_records(all: &mut Vec<Case>) {
 }
 
 fn fixed() -> Vec<Case> {
-    let mut all = vec![("the paper's strip", paper())];
-    let few = &paper()[..HEAD + 2 * RECORD];
-    for n in 0..=few.len() {
-        all.push(("cut at each byte", few[..n].to_vec()));
-    }
-    for bit in 0..8 * (HEAD + RECORD) {
-        all.push(("each bit flipped", with(few, bit / 8, few[bit / 8] ^ 1 << (bit % 8))));
-    }
-    fixed_heads(&mut all);
-    fixed_records(&mut all);
+    let mut all: Vec<Case> = VERSIONS.iter().map(|version| ("the paper's strip", paper(version))).collect();
     // More than a pipe holds, in both directions.
     let source = &mut Random::new(0);
-    all.push(("a long one", [head(12, 480, Settings::USUAL), passages(12, 20_000, false, source)].concat()));
+    all.push(("a long one", [head(&VERSIONS[0], 12, 480, Settings::USUAL), passages(12, 20_000, false, source)].concat()));
+    fixed_starts(&mut all);
+    for version in &VERSIONS {
+        let few = &paper(version)[..version.head() + 2 * RECORD];
+        for n in 0..=few.len() {
+            all.push(("cut at each byte", few[..n].to_vec()));
+        }
+        for bit in 0..8 * (version.head() + RECORD) {
+            all.push(("each bit flipped", with(few, bit / 8, few[bit / 8] ^ 1 << (bit % 8))));
+        }
+        fixed_heads(version, &mut all);
+        fixed_records(version, &mut all);
+    }
     all
 }
 
@@ -182,19 +213,25 @@ fn steady(records: usize, mut level: impl FnMut(usize, &mut Random) -> f32, sour
     all
 }
 
-fn any_threshold(source: &mut Random) -> u32 {
+/// A threshold that a version can say.
+fn any_threshold(version: &Version, source: &mut Random) -> u32 {
+    let all: Vec<u32> = judge::THRESHOLDS.iter().chain(&HEAD_THRESHOLDS).copied().collect();
+    let some: Vec<u32> = all.into_iter().filter(|t| (1..=version.largest).contains(t)).collect();
     match source.up_to(3) {
-        0 => 1 + source.up_to(199),
-        1 => one_of(&judge::THRESHOLDS, source),
+        0 => 1 + source.up_to(version.largest - 1),
+        1 => one_of(&some, source),
         _ => 1 + source.up_to(4),
     }
 }
 
-/// A strip that is accepted.
-fn service(source: &mut Random) -> Case {
-    let (threshold, samples) = (any_threshold(source), sound::any_samples(source));
+/// A strip that is accepted, with its version.
+fn service(source: &mut Random) -> (&'static Version, Case) {
+    let version = &VERSIONS[source.up_to(1) as usize];
+    let (threshold, samples) = (any_threshold(version, source), sound::any_samples(source));
     let records = match source.up_to(31) {
         0 => 300 + source.up_to(1500),
+        // Enough for a long run to count, here and there.
+        1..=4 if threshold > 200 => threshold + source.up_to(300),
         1 | 2 => source.up_to(300),
         _ => source.up_to(60),
     } as usize;
@@ -218,7 +255,7 @@ fn service(source: &mut Random) -> Case {
         4 => ("a service with peaks near its speech", passages(threshold, records, true, source)),
         _ => ("a service", passages(threshold, records, false, source)),
     };
-    (what, [head(threshold, samples, settings), rest].concat())
+    (version, (what, [head(version, threshold, samples, settings), rest].concat()))
 }
 
 /// A place of a strip, up to and with its end.
@@ -226,11 +263,11 @@ fn place(strip: &[u8], source: &mut Random) -> usize {
     source.up_to(strip.len() as u32) as usize
 }
 
-/// The place of a whole record of a strip, and none where it has no record.
-fn any_record(strip: &[u8], source: &mut Random) -> Option<usize> {
-    match (strip.len() - HEAD) / RECORD {
+/// The place of a whole record of a strip whose head has so many bytes, and none where it has no record.
+fn any_record(head: usize, strip: &[u8], source: &mut Random) -> Option<usize> {
+    match (strip.len() - head) / RECORD {
         0 => None,
-        n => Some(HEAD + RECORD * source.up_to(n as u32 - 1) as usize),
+        n => Some(head + RECORD * source.up_to(n as u32 - 1) as usize),
     }
 }
 
@@ -241,8 +278,9 @@ fn no_number(source: &mut Random) -> u32 {
 
 /// A strip with something wrong in it, or that comes out so. Some stay accepted.
 fn damaged(source: &mut Random) -> Case {
-    let (_, mut strip) = service(source);
-    match source.up_to(11) {
+    let (version, (_, mut strip)) = service(source);
+    let head = version.head();
+    match source.up_to(14) {
         0 | 1 => {
             strip.truncate(place(&strip, source));
             ("cut", strip)
@@ -267,7 +305,7 @@ fn damaged(source: &mut Random) -> Case {
             ("dropped bytes", strip)
         }
         5 | 6 => {
-            if let Some(at) = any_record(&strip, source) {
+            if let Some(at) = any_record(head, &strip, source) {
                 let i = source.up_to(4) as usize;
                 let bits = if source.up_to(1) == 0 { no_number(source) } else { one_of(RANGES[i].wrong, source) };
                 strip[at + 2 + 4 * i..at + 6 + 4 * i].copy_from_slice(&bits.to_be_bytes());
@@ -275,24 +313,40 @@ fn damaged(source: &mut Random) -> Case {
             ("a figure that is refused", strip)
         }
         7 => {
-            if let Some(at) = any_record(&strip, source) {
+            if let Some(at) = any_record(head, &strip, source) {
                 strip[at + source.up_to(1) as usize] = source.next() as u8;
             }
             ("a record's length", strip)
         }
         8 => {
-            let at = one_of(&[0, 1, 2, 3, 4, 5], source);
+            let at = one_of(&[0, 1, 2, 3, 4, 5, 6], source);
             strip[at] = source.next() as u8;
             ("a byte of the head", strip)
         }
         9 => {
-            let at = 6 + 4 * source.up_to(4) as usize;
+            let at = head - 20 + 4 * source.up_to(4) as usize;
             strip[at..at + 4].copy_from_slice(&no_number(source).to_be_bytes());
             ("a setting that is no number", strip)
         }
         10 => {
-            let (_, other) = service(source);
+            let (_, (_, other)) = service(source);
             ("a strip behind another", [strip, other].concat())
+        }
+        11 => {
+            let all = [0, 1, 200, 201, 255, 256, 300, 3000, 3001, 65535, source.up_to(65535), 3001 + source.up_to(62534)];
+            let threshold = one_of(&all, source).to_be_bytes();
+            strip[3..head - 22].copy_from_slice(&threshold[4 - (head - 25)..]);
+            ("another threshold", strip)
+        }
+        12 => {
+            strip[1] = one_of(&[24, 25], source);
+            strip[2] = one_of(&[0, 1, 2, 3], source);
+            ("another length and version", strip)
+        }
+        13 => {
+            strip.truncate(source.up_to(27) as usize);
+            strip.iter_mut().skip(2).take(1).for_each(|byte| *byte = one_of(&[1, 2, 2, 1, 0, 3], source));
+            ("a head that is cut", strip)
         }
         _ => ("any bytes", (0..source.up_to(100)).map(|_| source.next() as u8).collect()),
     }
@@ -303,7 +357,7 @@ fn random(seed: u64, number: usize) -> Case {
     let start = Random::new(seed ^ (number as u64) << 32).next();
     let source = &mut Random::new(start);
     if source.up_to(1) == 0 {
-        service(source)
+        service(source).1
     } else {
         damaged(source)
     }
@@ -341,10 +395,24 @@ struct Unlike {
     got: Result<Vec<u8>, String>,
 }
 
+/// What the comparison is asked for: the seed, how many random strips, whether it ends at the first that differs, and the
+/// command.
+pub struct Wish {
+    pub seed: u64,
+    pub count: usize,
+    pub first: bool,
+    pub command: Vec<String>,
+}
+
 /// What the comparison counts.
 #[derive(Default)]
 struct Tally {
     strips: usize,
+    /// By the byte where the version stands: 1, 2, and another or none.
+    versions: [usize; 3],
+    /// Heads that are not refused, by version; of these with T above 200, and their lines of the kind P.
+    heads: [usize; 2],
+    late: [usize; 2],
     records: usize,
     lines: usize,
     kinds: [usize; 3],
@@ -357,6 +425,15 @@ struct Tally {
 impl Tally {
     fn note(&mut self, number: usize, case: Case, due: Vec<u8>, seen: Seen, got: Result<Vec<u8>, String>) {
         self.strips += 1;
+        let version = VERSIONS.iter().position(|version| case.1.get(2) == Some(&version.number));
+        self.versions[version.unwrap_or(2)] += 1;
+        if let Some((version, threshold)) = seen.head {
+            self.heads[version as usize - 1] += 1;
+            if threshold > 200 {
+                self.late[0] += 1;
+                self.late[1] += seen.kinds[2];
+            }
+        }
         self.lines += seen.lines;
         for (all, one) in self.kinds.iter_mut().zip(seen.kinds) {
             *all += one;
@@ -419,7 +496,8 @@ fn tell(first: &Unlike) -> Result<(), String> {
 }
 
 /// Runs the command on the fixed strips and on so many random ones; true where every byte is as it must be.
-pub fn compare(seed: u64, count: usize, command: &[String]) -> bool {
+pub fn compare(wish: &Wish) -> bool {
+    let (seed, count) = (wish.seed, wish.count);
     println!("strip, {} random strips, seed {}, {}:", count, seed, std::env::consts::ARCH);
     let fixed = fixed();
     let (next, tally) = (AtomicUsize::new(0), Mutex::new(Tally::default()));
@@ -432,9 +510,12 @@ pub fn compare(seed: u64, count: usize, command: &[String]) -> bool {
         };
         let mut due = Vec::new();
         let seen = strip::print(&mut &case.1[..], &mut due).expect("a buffer can be read and written");
-        let got = run(command, &case.1);
+        let got = run(&wish.command, &case.1);
         if let Ok(mut tally) = tally.lock() {
             tally.note(number, case, due, seen, got);
+            if wish.first && tally.wrong > 0 {
+                return;
+            }
         }
     };
     std::thread::scope(|scope| {
@@ -445,6 +526,9 @@ pub fn compare(seed: u64, count: usize, command: &[String]) -> bool {
     let tally = tally.into_inner().unwrap_or_default();
     let [n, w, p] = tally.kinds;
     println!("  {} fixed strips, {} records: {} N, {} W, {} P", fixed.len(), tally.records, n, w, p);
+    let ([one, two, neither], [first, second], [late, published]) = (tally.versions, tally.heads, tally.late);
+    println!("  {} of version 1, {} of version 2, {} of neither; heads taken: {} and {}", one, two, neither, first, second);
+    println!("  {} of the heads taken have T above 200, and {} lines behind them are P", late, published);
     println!("  heads refused: {}; records refused: {}", tally.refusals(0), tally.refusals(1));
     if let Some(first) = &tally.first {
         if let Err(why) = tell(first) {
