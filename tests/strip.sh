@@ -9,10 +9,12 @@ fi
 room=$(mktemp -d)
 trap 'rm -rf "$room"' EXIT
 
-run() { tests/run-program strip; }
+mapfile -t words < <(tests/run-program --words strip)
+run() { "${words[@]}"; }
 
-# The strip that document 01 works on paper, and its output, which is printed there.
+# The strip that document 01 works on paper, and its output, which is printed there; and its twin in version 2.
 paper=tests/strips/paper.strip
+twin=tests/strips/version-2-paper.strip
 cat >"$room/paper" <<'LINES'
 1 N -4000 2000 1500 0
 2 W -4000 2000 1500 0
@@ -23,6 +25,8 @@ LINES
 run <"$paper" >"$room/got"
 same "strip: a strip that is read to its end ends with status 0" 0 $?
 same_file "strip: the paper's strip, to the byte" "$room/paper" "$room/got"
+run <"$twin" >"$room/got"
+same_file "strip: the paper's strip in version 2: the same lines, to the byte" "$room/paper" "$room/got"
 run <tests/strips/record-2-no-number.strip >"$room/got"
 same "strip: a strip that is refused ends with status 0 too" 0 $?
 
@@ -35,6 +39,25 @@ for strip in tests/strips/*.strip; do
     run <"$strip" >"$room/got" || echo "status $?" >>"$room/got"
     same_file "strip: $name" "tests/strips/$name.lines" "$room/got"
 done
+# The name of a strip that is refused says where and with which number: head-6.. is 0 R 6, and record-6.. is 2 R 6.
+same "strip: the stored lines end as the names of their strips say" "" \
+    "$(for due in tests/strips/*.lines; do
+        name=$(basename "$due" .lines) last=$(tail -n 1 "$due")
+        case ${name#version-2-} in
+        head-[0-9]-*) said=${name#*head-} said="0 R ${said%%-*}" ;;
+        record-[0-9]-*) said=${name#*record-} said="2 R ${said%%-*}" ;;
+        *) said="${last/ R / }" ;;
+        esac
+        [ "$last" = "$said" ] || echo "$name: $last"
+    done)"
+
+# Version 2 with a T of 3,000, thirty seconds: 2,999 lines wait, and the 3,000th publishes.
+tests/strips/waits strip >"$room/waits.strip"
+tests/strips/waits lines >"$room/due"
+run <"$room/waits.strip" >"$room/got"
+same_file "strip: with a T of 3,000, each line to the byte" "$room/due" "$room/got"
+same "strip: with a T of 3,000, 2,999 lines are W, the 3,000th is the first P, and the next two are P and N" \
+    "2999 W 2 P 1 N" "$(cut -d' ' -f2 "$room/got" | uniq -c | xargs)"
 
 # The last act is to write the reply to descriptor 3, with no line end: the number of the refusal in the last line, and 0 where
 # there is none. Nothing is written there where a read or a write failed.
@@ -128,33 +151,41 @@ told "the example service" 0
 same "strip: in the example the cough moves no figure" "-3825 1998 1327 1" \
     "$(sed -n 50,74p "$room/got" | cut -d' ' -f3- | sort -u)"
 
-# Cut at each byte: a head of 26 bytes ends with 0 R 5; then, for each record of 22, the lines of those
-# before it, and at its end nothing more, and inside it 5.
-: >"$room/due" && : >"$room/got"
-for ((n = 0; n <= 136; n++)); do
-    echo "$n bytes:" | tee -a "$room/due" >>"$room/got"
-    head -c "$n" "$paper" | run >>"$room/got"
-    if [ "$n" -lt 26 ]; then
-        echo "0 R 5" >>"$room/due"
-    else
-        whole=$(((n - 26) / 22))
-        head -n "$whole" "$room/paper" >>"$room/due"
-        if [ $(((n - 26) % 22)) -ne 0 ]; then echo "$((whole + 1)) R 5" >>"$room/due"; fi
-    fi
-done
-same_file "strip: cut at each byte of its head and of its five records" "$room/due" "$room/got"
+# Cut at each byte: a head that is cut ends with 0 R 5; then, for each record of 22, the lines of those
+# before it, and at its end nothing more, and inside it 5. A head has 26 bytes, and in version 2 27.
+cut_anywhere() { # NAME STRIP HEAD
+    : >"$room/due" && : >"$room/got"
+    for ((n = 0; n <= $3 + 110; n++)); do
+        echo "$n bytes:" | tee -a "$room/due" >>"$room/got"
+        head -c "$n" "$2" | run >>"$room/got"
+        if [ "$n" -lt "$3" ]; then
+            echo "0 R 5" >>"$room/due"
+        else
+            whole=$(((n - $3) / 22))
+            head -n "$whole" "$room/paper" >>"$room/due"
+            if [ $(((n - $3) % 22)) -ne 0 ]; then echo "$((whole + 1)) R 5" >>"$room/due"; fi
+        fi
+    done
+    same_file "strip: $1: cut at each byte of its head and of its five records" "$room/due" "$room/got"
+}
+cut_anywhere "version 1" "$paper" 26
+cut_anywhere "version 2" "$twin" 27
 same "strip: no byte at all is a head that is cut" "0 R 5" "$(run </dev/null)"
 
 # However the bytes come.
-for cut in 1 2 3 25 26 27 28 47 48 49; do
-    { head -c "$cut" "$paper"; sleep 0.05; tail -c "+$((cut + 1))" "$paper"; } | run | cmp -s - "$room/paper" || echo "at $cut"
-done >"$room/got"
-same "strip: a strip that comes in two pieces" "" "$(cat "$room/got")"
-for ((i = 0; i < 136; i++)); do
-    tail -c "+$((i + 1))" "$paper" | head -c 1
-    sleep 0.002
-done | run >"$room/got"
-same_file "strip: a strip that comes byte by byte" "$room/paper" "$room/got"
+in_pieces() { # NAME STRIP
+    for cut in 1 2 3 4 5 25 26 27 28 29 47 48 49 50; do
+        { head -c "$cut" "$2"; sleep 0.05; tail -c "+$((cut + 1))" "$2"; } | run | cmp -s - "$room/paper" || echo "at $cut"
+    done >"$room/got"
+    same "strip: $1: a strip that comes in two pieces" "" "$(cat "$room/got")"
+    for ((i = 0; i < $(wc -c <"$2"); i++)); do
+        tail -c "+$((i + 1))" "$2" | head -c 1
+        sleep 0.002
+    done | run >"$room/got"
+    same_file "strip: $1: a strip that comes byte by byte" "$room/paper" "$room/got"
+}
+in_pieces "version 1" "$paper"
+in_pieces "version 2" "$twin"
 
 # A million records: the first hundred of the example, again and again, over frames of 40 samples. The
 # memory that the program has used is read after 10,000 and at the end, before the strip is closed.
