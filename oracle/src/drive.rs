@@ -136,9 +136,9 @@ pub fn run(
     Ok(wrong)
 }
 
-/// Asks every question of a part. A missing answer differs, and so does one too many, a command that
-/// does not take all questions, and one that fails.
-pub fn differences(command: &[String], part: &mut dyn Part) -> Result<Found, String> {
+/// Asks every question of a part, or those up to the first answer that differs. A missing answer differs, and so does one
+/// too many, a command that does not take all questions, and one that fails.
+pub fn differences(command: &[String], part: &mut dyn Part, first: bool) -> Result<Found, String> {
     let mut found = Found::default();
     let others = run(command, |to| part.ask(to), &mut |question, due, got| {
         found.compared += 1;
@@ -148,7 +148,7 @@ pub fn differences(command: &[String], part: &mut dyn Part) -> Result<Found, Str
             }
             found.wrong += 1;
         }
-        true
+        !first || found.wrong == 0
     })?;
     for why in others {
         println!("  {}", why);

@@ -6,9 +6,10 @@
 //!                                         wrong program, what it would answer if the test of a handed-in state had
 //!                                         no such clause
 //!   oracle clauses PART                   the clauses of a part's test, each of which the comparison looks at
-//!   oracle compare [--seed N] [--only PART] --brief|--short|--long|--states -- COMMAND..
+//!   oracle compare [--seed N] [--only PART] [--first] --brief|--short|--long|--states -- COMMAND..
 //!                                         asks COMMAND and the Rust, and compares bit by bit; --states asks about
-//!                                         the test of a handed-in state alone
+//!                                         the test of a handed-in state alone; with --first no part is asked
+//!                                         further than an answer that differs
 //!   oracle scale [--seed N] [--minutes M | --rounds R] [--only PART] -- COMMAND..
 //!                                         the same at scale, in rounds of random questions with the seeds N,
 //!                                         N+1 and so on, and counts them: R rounds (1), or whole rounds until
@@ -59,7 +60,7 @@ use std::process::exit;
 const USAGE: &str = "usage: oracle list questions|answers
        oracle replay [--without CLAUSE]
        oracle clauses PART
-       oracle compare [--seed N] [--only PART] --brief|--short|--long|--states -- COMMAND..
+       oracle compare [--seed N] [--only PART] [--first] --brief|--short|--long|--states -- COMMAND..
        oracle scale [--seed N] [--minutes M | --rounds R] [--only PART] -- COMMAND..
        oracle strip
        oracle strips [--seed N] [--count N] [--first] -- COMMAND..
@@ -73,12 +74,13 @@ fn usage() -> ! {
 struct Wish {
     seed: u64,
     only: Option<String>,
+    first: bool,
     length: Length,
     command: Vec<String>,
 }
 
 fn wish(words: &[String]) -> Wish {
-    let (mut seed, mut only, mut length) = (1, None, None);
+    let (mut seed, mut only, mut first, mut length) = (1, None, false, None);
     let mut rest = words.iter();
     while let Some(word) = rest.next() {
         match word.as_str() {
@@ -90,6 +92,7 @@ fn wish(words: &[String]) -> Wish {
                 Some(name) => only = Some(name.clone()),
                 None => usage(),
             },
+            "--first" => first = true,
             "--brief" => length = Some(Length::Brief),
             "--short" => length = Some(Length::Short),
             "--long" => length = Some(Length::Long),
@@ -103,6 +106,7 @@ fn wish(words: &[String]) -> Wish {
         Some(length) if !command.is_empty() => Wish {
             seed,
             only,
+            first,
             length,
             command,
         },
@@ -187,7 +191,7 @@ fn compare_part(wish: &Wish, part: &mut dyn Part) -> usize {
         length => length.of("short", "long", "round"),
     };
     println!("{}, {} run, seed {}, {}:", part.name(), length, wish.seed, std::env::consts::ARCH);
-    let found = match drive::differences(&wish.command, part) {
+    let found = match drive::differences(&wish.command, part, wish.first) {
         Ok(found) => found,
         Err(why) => {
             println!("  {}", why);

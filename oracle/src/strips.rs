@@ -142,17 +142,25 @@ fn fixed() -> Vec<Case> {
     // More than a pipe holds, in both directions.
     let source = &mut Random::new(0);
     all.push(("a long one", [head(&VERSIONS[0], 12, 480, Settings::USUAL), passages(12, 20_000, false, source)].concat()));
+    // It starts at -20, and one frame of 20 brings it to 0.
+    let settings = Settings([0, 0x4248_0000, 0, 0x40c0_0000, 0xc248_0000]);
+    let twenty = [1.0_f32, 20.0, 20.0, -90.0, -90.0].map(f32::to_bits);
+    all.push(("a level of zero", [head(&VERSIONS[1], 1, 40, settings), record(&twenty)].concat()));
+    for version in &VERSIONS {
+        fixed_heads(version, &mut all);
+        fixed_records(version, &mut all);
+    }
     fixed_starts(&mut all);
     for version in &VERSIONS {
         let few = &paper(version)[..version.head() + 2 * RECORD];
         for n in 0..=few.len() {
             all.push(("cut at each byte", few[..n].to_vec()));
         }
-        for bit in 0..8 * (version.head() + RECORD) {
+        // Records are the same in both versions.
+        let flipped = version.head() + if version.number == 1 { RECORD } else { 2 };
+        for bit in 0..8 * flipped {
             all.push(("each bit flipped", with(few, bit / 8, few[bit / 8] ^ 1 << (bit % 8))));
         }
-        fixed_heads(version, &mut all);
-        fixed_records(version, &mut all);
     }
     all
 }

@@ -9,7 +9,7 @@ trap 'rm -rf "$room"' EXIT
 
 # The oracle's exit status where a command answers a part's questions.
 compared() { # PART COMMAND
-    target/oracle/oracle compare --only "$1" --short -- bash -c "$2" >/dev/null 2>&1
+    target/oracle/oracle compare --only "$1" --brief -- bash -c "$2" >/dev/null 2>&1
     echo $?
 }
 # The same where the program answers, which leaves its answers in a file; and where these go through a filter first. A part's
@@ -71,7 +71,7 @@ same "a part that there is not is refused" 2 "$(compared nothing cat)"
 
 # Whole strips: the oracle's own lines go through a filter first, in place of the program's.
 strips() { # FILTER
-    target/oracle/oracle strips --count 100 -- bash -c "target/oracle/oracle strip | $1" >/dev/null 2>&1
+    target/oracle/oracle strips --first --count 100 -- sh -c "target/oracle/oracle strip | $1" >/dev/null 2>&1
     echo $?
 }
 same "strips: the comparison finds nothing where nothing is altered" 0 "$(strips cat)"
@@ -99,31 +99,93 @@ cp "$source/common.rs" "$room/source" && chmod u+w "$room/source/common.rs"
 grep -h '(1.0 - t).powf(p)' "$source/limiter.rs" >>"$room/source/limiter.rs"
 same "a source with that power twice is refused" 1 "$(prepared)"
 
-# Programs that are wrong in one thing: the oracle's reader of strips, with a slip in it.
-wrong_oracle() { # FILE OLD NEW
-    rm -rf "$room/reader" && cp -r oracle/src "$room/reader"
-    sed -i "s/$2/$3/" "$room/reader/$1.rs"
-    if cmp -s "oracle/src/$1.rs" "$room/reader/$1.rs"; then echo "not ok there is no '$2' in $1.rs"; fi
-    rustc --edition 2021 -A warnings --crate-name oracle -o "$room/reader/oracle" --extern sonora_as_is=target/oracle/libsonora_as_is.rlib \
-        --extern sonora_ruled=target/oracle/libsonora_ruled.rlib "$room/reader/main.rs"
+# Programs that are wrong in one thing: the oracle's own answers and its reader of strips, and the Rust under it. It is built
+# once more with all of these slips, each behind a switch: at run time the one slip is made that SLIP names. The text that a
+# slip stands for must be there exactly once.
+mkdir "$room/slips" && cp -r oracle/src "$room/slips/oracle" && cp -r target/oracle/ruled "$room/slips/ruled"
+slip() { printf '%s\0' "$@" >>"$room/slips/all"; } # NAME FILE OLD NEW
+readers=()
+reader() { readers+=("$1") && slip "$1" "oracle/$2" "$3" "$4"; } # NAME FILE OLD NEW
+reader "hundredths that are rounded" strip 'hundred >> -power' '(hundred + (1 << (-power - 1))) >> -power'
+reader "hundredths of a product that is rounded" strip 'hundredths(level)' '(f32::from_bits(level) * 100.0) as i128'
+reader "publishing one frame too early" strip 'run == head.threshold' 'speech && run + 1 >= head.threshold'
+reader "one byte taken for the end" strip 'bytes.is_empty()' 'bytes.len() < 2'
+reader "a negative zero taken in a setting" judge 'self.0[i] != 0x8000_0000' 'true'
+reader "an rms of -150 taken" chain '-150.0 < rms' '-150.0 <= rms'
+reader "the length judged before the version" strip 'Err(VERSION)' 'Err(if [24, 25].contains(&two(&bytes, 0)) { VERSION } else { LENGTH })'
+reader "version 2 refused" strip 'version.number == bytes[2]' '[version.number, 1] == [bytes[2]; 2]'
+reader "version 3 taken" strip 'version.number == bytes[2]' 'version.number == if bytes[2] == 3 { 2 } else { bytes[2] }'
+reader "a length of 24 taken in version 2" strip 'two(&bytes, 0) != version.length' '![24, version.length].contains(&two(&bytes, 0))'
+reader "a length of 25 taken in version 1" strip 'two(&bytes, 0) != version.length' '![25, version.length].contains(&two(&bytes, 0))'
+reader "a T of version 2 with its low byte first" strip 'two(&bytes, 3)' '(bytes[4] as u32) << 8 | bytes[3] as u32'
+reader "the low byte alone of a T of version 2" strip 'two(&bytes, 3)' 'bytes[4] as u32'
+reader "a T of 255 taken in version 1" strip '(1..=version.largest)' '(1..=version.largest.max(255))'
+reader "a T of 3,001 taken in version 2" strip '(1..=version.largest)' '(1..=version.largest + version.largest / 3000)'
+reader "a T above 200 refused in version 2" strip '(1..=version.largest)' '(1..=200)'
+reader "a run count that is held at 200" strip '(run + 1).min(head.threshold)' '(run + 1).min(head.threshold.min(200))'
+# Answers that are wrong from some frame on, or to some states.
+slip "a run count of the level that is held at 200" oracle/speech '(self.count + 1).min(t)' '(self.count + 1).min(t.min(200))'
+slip "a run count of the protector that is held at 200" oracle/protector '(self.count + 1).min(t)' '(self.count + 1).min(t.min(200))'
+slip "a first step of 200 changes at most" oracle/controller 'self.change * self.threshold as f32' 'self.change * self.threshold.min(200) as f32'
+slip "waiting for 200 frames at most" oracle/controller 'self.waiting -= 1' 'self.waiting = self.waiting.min(200) - 1'
+slip "a threshold of 3,001 taken" oracle/judge '(1..=LARGEST_THRESHOLD)' '(1..=LARGEST_THRESHOLD + 1)'
+slip "that a refused frame ends a run" oracle/chain 'frame.untouched()' '{ if reply == FIGURE { self.state.speech.count = 0; } frame.untouched() }'
+slip "a peak that is pushed a frame early" oracle/protector 'self.elapsed > 400' 'self.elapsed >= 400'
+slip "a cough that leaves a trace" oracle/speech 'self.preliminary = self.reliable' 'self.preliminary.left = self.reliable.left'
+# A slip in each part of the Rust that judges.
+slip "speech from another probability" ruled/speech_level_estimator \
+    'speech_probability < VAD_CONFIDENCE_THRESHOLD' 'speech_probability <= VAD_CONFIDENCE_THRESHOLD'
+slip "a peak that the Rust pushes early" ruled/saturation_protector \
+    'state.time_since_push_ms > PEAK_ENVELOPER_SUPER_FRAME_LENGTH_MS' 'state.time_since_push_ms >= PEAK_ENVELOPER_SUPER_FRAME_LENGTH_MS'
+slip "a ring of the Rust that holds three" ruled/saturation_protector_buffer \
+    'self.size < SATURATION_PROTECTOR_BUFFER_SIZE' 'self.size + 1 < SATURATION_PROTECTOR_BUFFER_SIZE'
+slip "no first faster step" ruled/adaptive_digital_gain_controller \
+    'first_confident_speech_frame = self.frames_to_gain_increase_allowed == 0' 'first_confident_speech_frame = false'
+if python3 - "$room/slips" <<'END' &&
+import sys
+folder = sys.argv[1]
+words = open(folder + "/all", encoding="utf-8").read().split("\0")[:-1]
+for name, file, old, new in zip(*[iter(words)] * 4):
+    with open(f"{folder}/{file}.rs", encoding="utf-8") as source:
+        text = source.read()
+    if text.count(old) != 1:
+        sys.exit(f"'{old}' stands {text.count(old)} times in {file}.rs, and not once")
+    with open(f"{folder}/{file}.rs", "w", encoding="utf-8") as source:
+        source.write(text.replace(old, f'(if crate::slip("{name}") {{ {new} }} else {{ {old} }})'))
+for root in ["oracle/main.rs", "ruled/lib.rs"]:
+    with open(f"{folder}/{root}", "a", encoding="utf-8") as source:
+        source.write('\npub fn slip(name: &str) -> bool {\n    std::env::var("SLIP").map_or(false, |chosen| chosen == name)\n}\n')
+END
+    rustc --edition 2021 -A warnings -O --crate-type rlib --crate-name sonora_ruled -o "$room/slips/libsonora_ruled.rlib" "$room/slips/ruled/lib.rs" &&
+    rustc --edition 2021 -A warnings --crate-name oracle -o "$room/slips/slipped" --extern "sonora_ruled=$room/slips/libsonora_ruled.rlib" \
+        --extern sonora_as_is=target/oracle/libsonora_as_is.rlib "$room/slips/oracle/main.rs"; then
+    echo "ok the oracle is built with every slip"
+else
+    echo "not ok the oracle is built with every slip"
+    exit 1
+fi
+slipped=$room/slips/slipped
+export SLIP=
+
+same "strips: the comparison finds nothing where no slip is made" 0 \
+    "$(target/oracle/oracle strips --count 100 -- "$slipped" strip >/dev/null 2>&1; echo $?)"
+for SLIP in "${readers[@]}"; do
+    target/oracle/oracle strips --first --count 100 -- "$slipped" strip >/dev/null 2>&1
+    same "strips: it finds $SLIP" 1 $?
+done
+SLIP=
+# A program that makes a slip, in the short comparison, which the gate runs, or in one as brief.
+makes() { # PART SLIP [LENGTH]
+    same "$1: it finds $2" 1 "$(SLIP=$2 target/oracle/oracle compare --only "$1" --first "${3:---short}" -- "$slipped" replay >/dev/null 2>&1; echo $?)"
 }
-wrong_reader() { # NAME FILE OLD NEW
-    if wrong_oracle "$2" "$3" "$4"; then
-        target/oracle/oracle strips --count 100 -- "$room/reader/oracle" strip >/dev/null 2>&1
-        same "strips: it finds $1" 1 $?
-    else
-        echo "not ok strips: it finds $1"
-    fi
-}
-wrong_reader "hundredths that are rounded" strip 'hundred >> -power,' '(hundred + (1 << (-power - 1))) >> -power,'
-wrong_reader "hundredths of a product that is rounded" strip '    if bits >> 31 == 1 {' \
-    'let size = (f32::from_bits(bits \& 0x7fff_ffff) * 100.0) as i128; if bits >> 31 == 1 {'
-wrong_reader "publishing one frame too early" strip 'run == head.threshold' 'speech \&\& run + 1 >= head.threshold'
-wrong_reader "the length judged before the version" strip 'if bytes\[2\] != 1 {' 'if bytes[2] != 1 \&\& two(\&bytes, 0) == 24 {'
-wrong_reader "one byte taken for the end" strip 'if bytes.is_empty() {' 'if bytes.len() < 2 {'
-wrong_reader "a threshold of 201 taken" judge '(1..=200).contains' '(1..=201).contains'
-wrong_reader "a negative zero taken in a setting" judge ' && self.0\[i\] != 0x8000_0000' ''
-wrong_reader "an rms of -150 taken" chain '-150.0 < rms' '-150.0 <= rms'
+makes speech "a run count of the level that is held at 200"
+makes protector "a run count of the protector that is held at 200"
+makes controller "a first step of 200 changes at most"
+makes controller "waiting for 200 frames at most"
+makes chain "a run count of the protector that is held at 200"
+makes chain "a first step of 200 changes at most"
+for part in speech protector controller chain; do makes "$part" "a threshold of 3,001 taken" --brief; done
+makes chain "that a refused frame ends a run" --brief
 
 # The test of a handed-in state: of each clause of each part's test there are questions that a program without that clause answers
 # wrongly. The wrong program is the oracle's own answers, by a test without the clause; and the sound program is asked the same.
@@ -132,7 +194,7 @@ for part in ring curve estimator applier limiter speech protector controller cha
         "$(target/oracle/oracle compare --only "$part" --states -- tests/run-program replay >/dev/null 2>&1; echo $?)"
     target/oracle/oracle clauses "$part" >"$room/clauses"
     while read -r clause; do
-        target/oracle/oracle compare --only "$part" --states -- target/oracle/oracle replay --without "$clause" >"$room/told" 2>&1 </dev/null
+        target/oracle/oracle compare --only "$part" --first --states -- target/oracle/oracle replay --without "$clause" >/dev/null 2>&1 </dev/null
         same "$part: it finds a test without its clause '$clause'" 1 $?
     done <"$room/clauses"
 done
@@ -140,23 +202,16 @@ same "the clauses are those of document 01: so many for each part" "3 2 3 4 6 15
     "$(for part in ring curve estimator applier limiter speech protector controller chain; do target/oracle/oracle clauses "$part" | wc -l; done | paste -sd' ')"
 # The short comparison, which the gate runs, asks these questions too.
 same "speech: the short comparison finds a test without a clause" 1 \
-    "$(target/oracle/oracle compare --only speech --short -- target/oracle/oracle replay --without 'speech reliable sum' >/dev/null 2>&1; echo $?)"
+    "$(target/oracle/oracle compare --only speech --first --short -- target/oracle/oracle replay --without 'speech reliable sum' >/dev/null 2>&1; echo $?)"
 same "chain: the short comparison finds parts that are not alike in a setting" 1 \
-    "$(target/oracle/oracle compare --only chain --short -- target/oracle/oracle replay --without 'chain output noise' >/dev/null 2>&1; echo $?)"
-# A refused frame in the middle of a service, in the chain's answers: the first that is refused after the 5000th line, which lies
-# among the services. It must not be told as accepted, it must give its samples back, and a program that counts it is found.
-refused() { echo "awk 'NR > 5000 && /^0000000[123] 00000001/ && !done { done = 1; $1 } { print }'"; } # CHANGE
+    "$(target/oracle/oracle compare --only chain --first --short -- target/oracle/oracle replay --without 'chain output noise' >/dev/null 2>&1; echo $?)"
+# A refused frame in the middle of a service, in the chain's answers: the first that is refused after the 3500th line, which lies
+# among the services. It must not be told as accepted, and it must give its samples back.
+refused() { echo "awk 'NR > 3500 && /^0000000[123] 00000001/ && !done { done = 1; $1 } { print }'"; } # CHANGE
 same "chain: it finds a refused frame in a service that is said to be accepted" 1 \
     "$(through chain "$(refused 'sub(/^0000000./, "00000000")')")"
 same "chain: it finds a refused frame in a service whose samples are altered" 1 \
     "$(through chain "$(refused 'sub(/.$/, /7$/ ? "8" : "7")')")"
-if wrong_oracle chain 'let mut samples = frame.untouched();' \
-    'let mut samples = frame.untouched(); if reply == FIGURE { self.state.speech.count = 0; }'; then
-    target/oracle/oracle compare --only chain --short -- "$room/reader/oracle" replay >/dev/null 2>&1
-    same "chain: it finds that a refused frame ends a run" 1 $?
-else
-    echo "not ok chain: it finds that a refused frame ends a run"
-fi
 
 # At scale: a wrong program is found, the questions are shrunk to a few, and what is kept shows the difference
 # with that program and none with the sound one.
@@ -189,32 +244,28 @@ at_scale "an answer that is missing at the end" curve 1 bash -c "$(damaged "sed 
 at_scale "an answer too many" limiter 1 bash -c "$(damaged "sed '\$p'")"
 at_scale "that the program fails" estimator 1 bash -c "$(damaged 'cat; exit 3')"
 at_scale "that nothing is answered" applier 1 bash -c "$(damaged 'cat >/dev/null')"
-# A program with a slip in it, whose state is wrong from there on: the oracle's own answers, with the slip.
-wrong_oracle protector 'self.elapsed > 400' 'self.elapsed >= 400'
-at_scale "a peak that is pushed a frame early" protector 41 "$room/reader/oracle" replay
-wrong_oracle speech 'self.preliminary = self.reliable' 'self.preliminary.left = self.reliable.left'
-at_scale "a cough that leaves a trace" speech 4 "$room/reader/oracle" replay
+# A program with a slip in it, whose state is wrong from there on.
+SLIP="a peak that is pushed a frame early" at_scale "a peak that is pushed a frame early" protector 41 "$slipped" replay
+SLIP="a cough that leaves a trace" at_scale "a cough that leaves a trace" speech 4 "$slipped" replay
 target/oracle/oracle scale --only nothing -- cat >/dev/null 2>&1
 same "scale: a part that there is not is refused" 2 $?
 
-# The Rust itself is compared, and not only what the oracle has by hand: a slip in each of the parts that
-# judge, in the Rust that the oracle is built over, is found.
-cp "$source"/*.rs "$room/source" && chmod -R u+w "$room/source"
-slip() { # FILE OLD NEW
-    sed -i "s/$2/$3/" "$room/source/$1.rs"
-    if cmp -s "$source/$1.rs" "$room/source/$1.rs"; then echo "not ok there is no '$2' in $1.rs"; fi
+# The Rust itself is compared, and not only what the oracle has by hand: a slip in each of the parts that judge, in the Rust
+# that the oracle is built over, is found.
+under() { # PART SLIP
+    SLIP=$2 "$slipped" compare --only "$1" --brief -- tests/run-program replay >/dev/null 2>&1
+    echo $?
 }
-slip speech_level_estimator 'speech_probability < VAD' 'speech_probability <= VAD'
-slip saturation_protector 'time_since_push_ms > PEAK' 'time_since_push_ms >= PEAK'
-slip adaptive_digital_gain_controller 'first_confident_speech_frame = self.frames_to_gain_increase_allowed == 0' 'first_confident_speech_frame = false'
-mkdir "$room/other" && cp -r oracle "$room/other"
-SONORA_SRC=$room/source "$room/other/oracle/build" >/dev/null 2>&1
-slipped() { "$room/other/target/oracle/oracle" compare --only "$1" --short -- tests/run-program replay >/dev/null 2>&1; echo $?; }
-for part in speech protector controller chain; do
-    same "$part: it finds a slip in the Rust" 1 "$(slipped "$part")"
+same "speech: it finds a slip in the Rust" 1 "$(under speech "speech from another probability")"
+same "protector: it finds a slip in the Rust" 1 "$(under protector "a peak that the Rust pushes early")"
+same "controller: it finds a slip in the Rust" 1 "$(under controller "no first faster step")"
+for slip in "speech from another probability" "a peak that the Rust pushes early" "no first faster step"; do
+    same "chain: it finds a slip in the Rust: $slip" 1 "$(under chain "$slip")"
+    same "strips: it finds a slip in the Rust: $slip" 1 \
+        "$(SLIP=$slip target/oracle/oracle strips --first --count 100 -- "$slipped" strip >/dev/null 2>&1; echo $?)"
 done
-target/oracle/oracle strips --count 100 -- "$room/other/target/oracle/oracle" strip >/dev/null 2>&1
-same "strips: it finds a slip in the Rust" 1 $?
-"$room/other/target/oracle/oracle" scale --only protector -- tests/run-program replay >/dev/null 2>&1
-same "scale, protector: it finds a slip in the Rust" 1 $?
-same "ratio: where the Rust has no slip, it finds none" 0 "$(slipped ratio)"
+same "scale, ring: it finds a slip in the Rust" 1 \
+    "$(SLIP="a ring of the Rust that holds three" "$slipped" scale --only ring -- tests/run-program replay >/dev/null 2>&1; echo $?)"
+for part in speech protector controller chain; do
+    same "$part: where the Rust has no slip, it finds none" 0 "$(under "$part" "")"
+done
