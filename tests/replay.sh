@@ -70,6 +70,27 @@ same "replay: a run of 1 is thrown away, a refused frame is not counted, a run o
     "[00000000 c2200000 00000001] [00000000 c2200000 00000000] [00000000 c2200000 00000001] [00000002 c2200000 00000001] [00000000 c1d63cbf 00000002]" \
     "$({ echo "speech.new $usual 00000002"; printf 'speech.update %s\n' 'c1200000 3f800000' 'c2200000 3f733332' 'c1a00000 3f733333' '7fc00000 00000000' 'c1a00000 3f800000'; } | replay | sed 1d | cut -d' ' -f1,15,17 | sed 's/.*/[&]/' | paste -sd' ')"
 
+# T is 1 to 3,000 in each part that has it, and in the chain.
+new_with() { # PART T
+    case $1 in
+    protector) printf 'protector.new 41a00000 %08x\n' "$2" ;;
+    chain) printf 'chain.new %s %08x 00000028\n' "$usual" "$2" ;;
+    *) printf '%s.new %s %08x\n' "$1" "$usual" "$2" ;;
+    esac
+}
+for part in speech protector controller chain; do
+    same "replay: $part: T of 0, 3,001, 65,535 and 65,538 are refused with 4, and 1, 200, 201 and 3,000 are taken" "4 4 4 4 0 0 0 0" \
+        "$(for t in 0 3001 65535 65538 1 200 201 3000; do new_with "$part" "$t"; done | replay | cut -c8 | paste -sd' ')"
+done
+same "replay: T of 3,000: the count of a run goes to 2,999, back to 0 with no speech, and to 3,000, where it is held" \
+    "00000bb7 00000000 00000bb7 00000bb8 00000bb8" \
+    "$({
+        new_with speech 3000
+        yes 'speech.update c1200000 3f800000' | head -n 2999
+        echo 'speech.update c1200000 00000000'
+        yes 'speech.update c2200000 3f800000' | head -n 3001
+    } | replay | sed -n '3000p; 3001p; 6000,6002p' | cut -d' ' -f17 | paste -sd' ')"
+
 # A frame of so many samples at 1 for the controller, as some channels of 480, with nothing to boost.
 known() { # CHANNELS SAMPLES
     printf 'controller.process %08x 000001e0 3f800000 00000000 00000001 c2b40000 41a00000 c2b40000' "$1"
