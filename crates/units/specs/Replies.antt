@@ -31,7 +31,7 @@ cut = 5
 abbrev pub badLength : ℕ
 badLength = 6
 
--- "7: strip version not 1"
+-- "7 now means neither 1 nor 2": the strip's version
 abbrev pub badVersion : ℕ
 badVersion = 7
 

@@ -24,7 +24,7 @@ pub const CUT: u32 = 5;
 // A strip's length field that is wrong.
 pub const LENGTH: u32 = 6;
 
-// A strip of another version.
+// A strip whose version is neither 1 nor 2.
 pub const VERSION: u32 = 7;
 
 // An output buffer that is too short.
