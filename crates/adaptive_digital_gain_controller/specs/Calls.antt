@@ -11,7 +11,7 @@ use Rattle.frames.specs.Samples.{largestInput}
 use Rattle.frames.specs.Refusal.{frameRefusal}
 use Rattle.gain_applier.specs.Applier as Applier
 use Rattle.gain_applier.specs.declared.Applier.{Applier as Gain}
-use Rattle.adaptive_digital_gain_controller.specs.Controller.{accepted, passes, nothing, fresh, decided}
+use Rattle.adaptive_digital_gain_controller.specs.Controller.{accepted, passes, nothing, fresh, decided, interrupted}
 use Rattle.adaptive_digital_gain_controller.specs.declared.Info.{Info}
 use Rattle.adaptive_digital_gain_controller.specs.declared.Controller.{Controller}
 use Rattle.adaptive_digital_gain_controller.specs.declared.Next.{Next}
@@ -43,3 +43,8 @@ processed c i frame channels samples =
       next = record { reply = reply; controller = cond (eqb reply done) (with-applier (decided c i) (put .next .applier)) c };
       frame = cond (eqb reply done) (put .frame) frame;
     }
+
+-- a gap: it has neither figures nor sound, so it is refused for the state alone
+unfoldable pub gap : Controller → Next
+unfolding refusal passes interrupted
+gap c = record { reply = refusal true (passes c) true true; controller = cond (passes c) (interrupted c) c }

@@ -85,3 +85,15 @@ decided c i =
       waiting = waiting;
       gain = gain;
     }
+
+-- a gap: it "sets the controller's waiting count back to T .. and moves no gain"
+unfoldable pub interrupted : Controller → Controller
+interrupted c =
+    record {
+      applier = c .applier;
+      settings = c .settings;
+      threshold = c .threshold;
+      change = c .change;
+      waiting = c .threshold;
+      gain = c .gain;
+    }

@@ -7,3 +7,4 @@ pub mod States
 pub mod Waiting
 pub mod Calls
 pub mod Outcome
+pub mod Gaps

@@ -4,8 +4,8 @@
 ghost use mathlib.Core.Path.{_≡_};
 ghost use Rattle.adaptive_digital_gain_controller.specs.Target.{wanted, underNoise, underEnvelope, target};
 ghost use Rattle.adaptive_digital_gain_controller.specs.Change.{perFrame, waits, increase, changed};
-ghost use Rattle.adaptive_digital_gain_controller.specs.Controller.{accepted, nothing, fresh, aimed, decided, passes};
-ghost use Rattle.adaptive_digital_gain_controller.specs.Calls.{made, processed};
+ghost use Rattle.adaptive_digital_gain_controller.specs.Controller.{accepted, nothing, fresh, aimed, decided, passes, interrupted};
+ghost use Rattle.adaptive_digital_gain_controller.specs.Calls.{made, processed, gap};
 use gain_applier::Applier;
 use units::kinds::Db;
 use units::kinds::Dbfs;
@@ -268,6 +268,44 @@ impl Controller {
                 reply: before,
                 controller: self,
             }
+        }
+    }
+
+    // Marks a gap: frames were lost, so that those before it and after it are not adjacent. All of the adjacent
+    // speech frames are to come again before the gain may rise; the gain and its ramp stay. A state that fails
+    // its test is refused with 4.
+    pub fn gap(self) -> Next
+        ensures { λ r. ⌜ r ≡ gap self ⌝ }
+    {
+        let ok = self.passes();
+        let reply = refusal(true, ok, true, true);
+        if ok {
+            let after = self.interrupted();
+            Next {
+                reply,
+                controller: after,
+            }
+        } else {
+            Next {
+                reply,
+                controller: self,
+            }
+        }
+    }
+
+    // The controller after a gap.
+    fn interrupted(self) -> Controller
+        ensures { λ r. ⌜ r ≡ interrupted self ⌝ }
+    {
+        let applier = self.applier;
+        let settings = self.settings;
+        Controller {
+            applier,
+            settings,
+            threshold: self.threshold,
+            change: self.change,
+            waiting: self.threshold,
+            gain: self.gain,
         }
     }
 }

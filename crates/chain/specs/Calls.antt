@@ -27,6 +27,7 @@ use Rattle.chain.specs.declared.Chain.{Chain}
 use Rattle.units.specs.declared.figures.Figures.{Figures}
 use Rattle.chain.specs.declared.Made.{Made}
 use Rattle.chain.specs.declared.Next.{Next}
+use Rattle.chain.specs.declared.Gapped.{Gapped}
 use Rattle.chain.specs.declared.Published.{Published}
 use Rattle.chain.specs.declared.Reading.{Reading}
 use Rattle.chain.specs.declared.SamplesRead.{SamplesRead}
@@ -117,6 +118,23 @@ called c f frame channels samples =
       told = record { reply = reply; answer = cond (eqb reply done) (next .answer) nonSpeech; chain = cond (eqb reply done) (next .chain) c };
       frame = cond (eqb reply done) (next .frame) frame;
     }
+
+-- ---- a gap
+-- "It ends the run as a non-speech frame does, sets the controller's waiting count back to T, handles no samples and moves no gain."
+unfoldable pub interrupted : Chain → Chain
+unfolding Level.interrupted Headroom.interrupted Gain.interrupted
+interrupted c =
+    record {
+      estimator = Level.interrupted (c .estimator);
+      protector = Headroom.interrupted (c .protector);
+      controller = Gain.interrupted (c .controller);
+      limiter = c .limiter;
+    }
+
+-- it has neither figures nor sound, so it is refused for the state alone
+unfoldable pub gap : Chain → Gapped
+unfolding refusal passes interrupted
+gap c = record { reply = refusal true (passes c) true true; chain = cond (passes c) (interrupted c) c }
 
 -- ---- what a chain tells of itself, where it passes: otherwise 4, and "any other result 0, false"
 abbrev pub nothingPublished : Published

@@ -9,7 +9,7 @@ ghost use Rattle.saturation_protector.specs.Calls as Headrooms;
 ghost use Rattle.limiter.specs.Scale.{FullScale};
 ghost use Rattle.chain.specs.Chain.{alike, passes};
 ghost use Rattle.chain.specs.Answer.{answerOf, said};
-ghost use Rattle.chain.specs.Calls.{informed, made, told, called, samplesTold, publishedTold};
+ghost use Rattle.chain.specs.Calls.{informed, made, told, called, gap, samplesTold, publishedTold};
 ghost use Rattle.chain.specs.Laws.Calls.{early};
 ghost use Rattle.chain.specs.Laws.Start.{four};
 use adaptive_digital_gain_controller::Controller;
@@ -54,6 +54,12 @@ pub struct Made {
 pub struct Next {
     pub reply: u32,
     pub answer: Answer,
+    pub chain: Chain,
+}
+
+// A reply's number, and the chain that goes on after a gap: the one that came in, where it is refused.
+pub struct Gapped {
+    pub reply: u32,
     pub chain: Chain,
 }
 
@@ -310,6 +316,40 @@ impl Chain {
                 answer: Answer::NonSpeech,
                 chain: self,
             }
+        }
+    }
+
+    // Marks a gap: frames were lost, so that those before it and after it are not adjacent. It ends the run of
+    // speech as a frame that is not speech does, and all of the adjacent speech frames are to come again before
+    // the gain may rise. It has no sound: the gain and the limiter stay. A chain that fails its test is refused
+    // with 4.
+    pub fn gap(self) -> Gapped
+        ensures { λ r. ⌜ r ≡ gap self ⌝ }
+    {
+        let ok = self.passes();
+        let reply = refusal(true, ok, true, true);
+        if ok {
+            let estimator = self.estimator;
+            let protector = self.protector;
+            let controller = self.controller;
+            let silent = self.limiter;
+            let first = estimator.gap();
+            let second = protector.gap();
+            let third = controller.gap();
+            let closed = first.estimator;
+            let shut = second.protector;
+            let waits = third.controller;
+            Gapped {
+                reply,
+                chain: Chain {
+                    estimator: closed,
+                    protector: shut,
+                    controller: waits,
+                    limiter: silent,
+                },
+            }
+        } else {
+            Gapped { reply, chain: self }
         }
     }
 }

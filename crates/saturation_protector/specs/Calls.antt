@@ -5,7 +5,7 @@ use lib.Ieee.{Float, binary32, ofBits}
 use Rattle.units.specs.Figures.{probability, level, headroom}
 use Rattle.units.specs.Replies.{refusal}
 use Rattle.units.specs.Settings.{threshold}
-use Rattle.saturation_protector.specs.Protector.{passes, nothing, fresh, again, analyzed}
+use Rattle.saturation_protector.specs.Protector.{passes, nothing, fresh, again, analyzed, interrupted}
 use Rattle.saturation_protector.specs.declared.Protector.{Protector}
 use Rattle.saturation_protector.specs.declared.Next.{Next}
 use Rattle.saturation_protector.specs.declared.Headroom.{Headroom}
@@ -31,6 +31,11 @@ stepped s p peak speechLevel =
       reply = refusal true (passes s) (figures p peak speechLevel) true;
       protector = cond (passes s && figures p peak speechLevel) (analyzed s p peak speechLevel) s;
     }
+
+-- a gap: it has no figures, so it is refused for the state alone
+unfoldable pub gap : Protector → Next
+unfolding refusal passes interrupted
+gap s = record { reply = refusal true (passes s) true true; protector = cond (passes s) (interrupted s) s }
 
 unfoldable pub reset : Protector → Next
 unfolding refusal passes again

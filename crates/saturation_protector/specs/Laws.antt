@@ -14,3 +14,4 @@ pub mod Joined
 pub mod Forty
 pub mod Short
 pub mod Outcome
+pub mod Gaps

@@ -5,7 +5,7 @@ use lib.Dec.{leb}
 use lib.Ieee.{Float, binary32, ofBits}
 use Rattle.units.specs.Figures.{headroom}
 use Rattle.units.specs.Settings.{threshold}
-use Rattle.runs.specs.Runs.{Run, speech, framed, published}
+use Rattle.runs.specs.Runs.{Run, speech, closed, framed, published}
 use Rattle.saturation_protector.specs.Peaks as Peaks
 use Rattle.saturation_protector.specs.declared.Peaks.{Peaks as State}
 use Rattle.saturation_protector.specs.declared.Protector.{Protector}
@@ -76,4 +76,18 @@ analyzed s p peak speechLevel =
       headroom = cond (published (speech p) (s .threshold) (s .count)) (next .preliminary .headroom) (s .headroom);
       preliminary = next .preliminary;
       reliable = next .reliable;
+    }
+
+-- a gap: "It ends the run as a non-speech frame does"; nothing is heard in it, and the published headroom stays
+unfoldable pub interrupted : Protector → Protector
+unfolding closed
+interrupted s =
+    let ended = closed (s .threshold) (run s) in
+    record {
+      initial = s .initial;
+      threshold = s .threshold;
+      count = ended .count;
+      headroom = s .headroom;
+      preliminary = ended .preliminary;
+      reliable = ended .reliable;
     }

@@ -6,8 +6,8 @@ ghost use Rattle.units.specs.Figures.{level as isLevel};
 ghost use Rattle.saturation_protector_buffer.specs.Rings.{slots};
 ghost use Rattle.saturation_protector_buffer.specs.Ring.{capacity, passes as passesRing, items};
 ghost use Rattle.saturation_protector.specs.Peaks.{allLevels, none, starting, passes, oldestOr, nearer, restarted, advanced};
-ghost use Rattle.saturation_protector.specs.Protector.{passes as passesProtector, analyzed};
-ghost use Rattle.saturation_protector.specs.Calls.{made, stepped, reset, told};
+ghost use Rattle.saturation_protector.specs.Protector.{passes as passesProtector, analyzed, interrupted};
+ghost use Rattle.saturation_protector.specs.Calls.{made, stepped, gap, reset, told};
 use saturation_protector_buffer::CAPACITY;
 use saturation_protector_buffer::Front;
 use saturation_protector_buffer::Ring;
@@ -288,6 +288,43 @@ impl Protector {
             threshold: self.threshold,
             count: turn.count,
             headroom,
+            preliminary,
+            reliable,
+        }
+    }
+
+    // Marks a gap: frames were lost, so that those before it and after it are not adjacent. It ends the run as
+    // a frame that is not speech does, and publishes nothing. A state that fails its test is refused with 4.
+    pub fn gap(self) -> Next
+        ensures { λ r. ⌜ r ≡ gap self ⌝ }
+    {
+        let ok = self.passes();
+        let reply = refusal(true, ok, true, true);
+        if ok {
+            let after = self.interrupted();
+            Next {
+                reply,
+                protector: after,
+            }
+        } else {
+            self.unchanged(reply)
+        }
+    }
+
+    // The protector after a gap.
+    fn interrupted(self) -> Protector
+        ensures { λ r. ⌜ r ≡ interrupted self ⌝ }
+    {
+        let before = self.preliminary;
+        let trusted = self.reliable;
+        let ended = runs::step(false, self.threshold, self.count);
+        let preliminary = pick_peaks(ended.throw, trusted, before);
+        let reliable = pick_peaks(ended.keep, before, trusted);
+        Protector {
+            initial: self.initial,
+            threshold: self.threshold,
+            count: ended.count,
+            headroom: self.headroom,
             preliminary,
             reliable,
         }

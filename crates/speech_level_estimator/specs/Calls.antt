@@ -6,7 +6,7 @@ use Rattle.units.specs.Figures.{probability, rms}
 use Rattle.units.specs.Replies.{refusal}
 use Rattle.units.specs.Settings.{accepted, threshold}
 use Rattle.units.specs.declared.settings.Settings.{Settings}
-use Rattle.speech_level_estimator.specs.Estimator.{startingLevel, passes, nothing, fresh, updated}
+use Rattle.speech_level_estimator.specs.Estimator.{startingLevel, passes, nothing, fresh, updated, interrupted}
 use Rattle.speech_level_estimator.specs.declared.Estimator.{Estimator}
 use Rattle.speech_level_estimator.specs.declared.Next.{Next}
 use Rattle.speech_level_estimator.specs.declared.Level.{Level}
@@ -31,6 +31,11 @@ stepped e level p =
       reply = refusal true (passes e) (figures level p) true;
       estimator = cond (passes e && figures level p) (updated e level p) e;
     }
+
+-- a gap: it has no figures, so it is refused for the state alone
+unfoldable pub gap : Estimator → Next
+unfolding refusal passes interrupted
+gap e = record { reply = refusal true (passes e) true true; estimator = cond (passes e) (interrupted e) e }
 
 unfoldable pub restarted : Estimator → Next
 unfolding refusal passes fresh

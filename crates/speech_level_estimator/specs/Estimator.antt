@@ -6,6 +6,7 @@ use lib.Ieee.{Float, binary32, ofBits, sub, eq}
 use Rattle.units.specs.Ranges.{closed}
 use Rattle.units.specs.Settings.{accepted, threshold, unset}
 use Rattle.units.specs.declared.settings.Settings.{Settings}
+use Rattle.runs.specs.Runs as Runs
 use Rattle.runs.specs.Runs.{Run, speech, publishes, framed, published}
 use Rattle.speech_level_estimator.specs.Average as Average
 use Rattle.speech_level_estimator.specs.declared.Average.{Average as State}
@@ -81,4 +82,20 @@ updated e rms p =
       level = cond (published (speech p) (e .threshold) (e .count)) (Average.level (next .preliminary)) (e .level);
       confident = trusted (e .threshold) (next .count) (next .preliminary .left) (next .reliable .left);
       count = next .count;
+    }
+
+-- a gap: "It ends the run as a non-speech frame does"; nothing is heard in it, and the published level stays
+unfoldable pub interrupted : Estimator → Estimator
+unfolding Runs.closed trusted
+interrupted e =
+    let ended = Runs.closed (e .threshold) (run e) in
+    record {
+      settings = e .settings;
+      threshold = e .threshold;
+      initial = e .initial;
+      preliminary = ended .preliminary;
+      reliable = ended .reliable;
+      level = e .level;
+      confident = trusted (e .threshold) (ended .count) (ended .preliminary .left) (ended .reliable .left);
+      count = ended .count;
     }

@@ -7,3 +7,4 @@ pub mod Advance
 pub mod Level
 pub mod Again
 pub mod Short
+pub mod Gaps

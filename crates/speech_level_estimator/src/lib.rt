@@ -5,8 +5,8 @@ ghost use mathlib.Core.Path.{_≡_};
 ghost use mathlib.Core.Bool.{cond};
 ghost use Prim.Native.Nat.{_-_};
 ghost use Rattle.speech_level_estimator.specs.Average.{none, starting, passes, advanced, level};
-ghost use Rattle.speech_level_estimator.specs.Estimator.{startingLevel, trusted, passes as passesEstimator, nothing, fresh, updated};
-ghost use Rattle.speech_level_estimator.specs.Calls.{made, stepped, restarted, levelTold, confidenceTold};
+ghost use Rattle.speech_level_estimator.specs.Estimator.{startingLevel, trusted, passes as passesEstimator, nothing, fresh, updated, interrupted};
+ghost use Rattle.speech_level_estimator.specs.Calls.{made, stepped, gap, restarted, levelTold, confidenceTold};
 use units::kinds::Dbfs;
 use units::replies::refusal;
 use units::settings::Settings;
@@ -273,6 +273,51 @@ impl Estimator {
             level,
             confident,
             count: turn.count,
+        }
+    }
+
+    // Marks a gap: frames were lost, so that those before it and after it are not adjacent. It ends the run as
+    // a frame that is not speech does, and publishes nothing. A state that fails its test is refused with 4.
+    pub fn gap(self) -> Next
+        ensures { λ r. ⌜ r ≡ gap self ⌝ }
+    {
+        let ok = self.passes();
+        let reply = refusal(true, ok, true, true);
+        if ok {
+            let after = self.interrupted();
+            Next {
+                reply,
+                estimator: after,
+            }
+        } else {
+            Next {
+                reply,
+                estimator: self,
+            }
+        }
+    }
+
+    // The estimator after a gap.
+    fn interrupted(self) -> Estimator
+        ensures { λ r. ⌜ r ≡ interrupted self ⌝ }
+    {
+        let settings = self.settings;
+        let threshold = self.threshold;
+        let before = self.preliminary;
+        let trusted = self.reliable;
+        let ended = runs::step(false, threshold, self.count);
+        let preliminary = pick_average(ended.throw, trusted, before);
+        let reliable = pick_average(ended.keep, before, trusted);
+        let confident = is_trusted(threshold, ended.count, preliminary.left, reliable.left);
+        Estimator {
+            settings,
+            threshold,
+            initial: self.initial,
+            preliminary,
+            reliable,
+            level: self.level,
+            confident,
+            count: ended.count,
         }
     }
 

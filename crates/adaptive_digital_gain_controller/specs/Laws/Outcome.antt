@@ -1,4 +1,4 @@
--- Each of the three promises leaves one outcome.
+-- Each promise leaves one outcome.
 use mathlib.Core.Path.{_≡_}
 use mathlib.Core.List.{List}
 use Prim.Native.Nat.{ℕ}
@@ -6,7 +6,7 @@ use lib.Ieee.{Float}
 use Rattle.lists.specs.Promise.{one-outcome}
 use Rattle.units.specs.declared.settings.Settings.{Settings as Set}
 use Rattle.adaptive_digital_gain_controller.specs.Controller.{passes}
-use Rattle.adaptive_digital_gain_controller.specs.Calls.{made, processed}
+use Rattle.adaptive_digital_gain_controller.specs.Calls.{made, processed, gap}
 use Rattle.adaptive_digital_gain_controller.specs.declared.Info.{Info}
 use Rattle.adaptive_digital_gain_controller.specs.declared.Controller.{Controller}
 
@@ -14,7 +14,8 @@ use Rattle.adaptive_digital_gain_controller.specs.declared.Controller.{C
 abbrev pub Once {ℓ} : {A : Type ℓ} → A → Type ℓ
 Once {A} d = (r s : A) → r ≡ d → s ≡ d → r ≡ s
 
--- Any two outcomes of new, of passes and of a frame, its answer and every sample of it, that meet the promise are the same.
+-- Any two outcomes of new, of passes, of a frame, its answer and every sample of it, and of a gap, that meet the promise are the same.
 pub one-answer : (s : Set) (t : ℕ) (c : Controller) (i : Info) (frame : List Float) (channels samples : ℕ)
     → Once (made s t) × Once (passes c) × Once (processed c i frame channels samples .next) × Once (processed c i frame channels samples .frame)
-one-answer s t c i frame channels samples = (one-outcome, one-outcome, one-outcome, one-outcome)
+    × Once (gap c)
+one-answer s t c i frame channels samples = (one-outcome, one-outcome, one-outcome, one-outcome, one-outcome)

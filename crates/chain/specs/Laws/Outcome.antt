@@ -9,11 +9,12 @@ use lib.Ieee.{Float}
 use Rattle.lists.specs.Promise.{one-outcome}
 use Rattle.units.specs.declared.settings.Settings.{Settings as Set}
 use Rattle.chain.specs.Answer.{Said, said}
-use Rattle.chain.specs.Calls.{Told, made, told, called}
+use Rattle.chain.specs.Calls.{Told, made, told, called, gap}
 use Rattle.chain.specs.declared.Answer.{Answer}
 use Rattle.chain.specs.declared.Answer.the-variants.{NonSpeech, Waiting, Publishing}
 use Rattle.chain.specs.declared.Chain.{Chain}
 use Rattle.units.specs.declared.figures.Figures.{Figures}
+use Rattle.chain.specs.declared.Gapped.{Gapped}
 use Rattle.chain.specs.declared.Made.{Made}
 use Rattle.chain.specs.declared.Next.{Next}
 
@@ -53,6 +54,10 @@ module _ (c : Chain) (f : Figures) (frame : List Float) (channels samples : ℕ)
   pub frame-one : (x y : List Float) → x ≡ called c f frame channels samples .frame → y ≡ called c f frame channels samples .frame → x ≡ y
   frame-one x y p q = one-outcome x y p q
 
--- and so does that of `new`.
+-- and so do that of `gap`
+pub gap-one : (c : Chain) (g h : Gapped) → g ≡ gap c → h ≡ gap c → g ≡ h
+gap-one c g h p q = one-outcome g h p q
+
+-- and that of `new`.
 pub made-one : (s : Set) (t samples : ℕ) (m n : Made) → m ≡ made s t samples → n ≡ made s t samples → m ≡ n
 made-one s t samples m n p q = one-outcome m n p q

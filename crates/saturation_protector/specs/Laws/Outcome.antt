@@ -5,14 +5,14 @@ use Prim.Native.Nat.{ℕ}
 use lib.Ieee.{Float}
 use Rattle.lists.specs.Promise.{one-outcome}
 use Rattle.saturation_protector.specs.Protector.{passes}
-use Rattle.saturation_protector.specs.Calls.{made, stepped, reset, told}
+use Rattle.saturation_protector.specs.Calls.{made, stepped, gap, reset, told}
 use Rattle.saturation_protector.specs.declared.Protector.{Protector}
 
 -- whatever two results both are what d says are the same
 abbrev pub Once {ℓ} : {A : Type ℓ} → A → Type ℓ
 Once {A} d = (r s : A) → r ≡ d → s ≡ d → r ≡ s
 
--- Any two outcomes of new, passes, analyze, reset and headroom_db that meet the promise are the same: reply, state, figure and all.
+-- Any two outcomes of new, passes, analyze, gap, reset and headroom_db that meet the promise are the same: reply, state, figure and all.
 pub one-answer : (s : Protector) (initial : Float) (t : ℕ) (p peak level : Float)
-    → Once (made initial t) × Once (passes s) × Once (stepped s p peak level) × Once (reset s) × Once (told s)
-one-answer s initial t p peak level = (one-outcome, one-outcome, one-outcome, one-outcome, one-outcome)
+    → Once (made initial t) × Once (passes s) × Once (stepped s p peak level) × Once (gap s) × Once (reset s) × Once (told s)
+one-answer s initial t p peak level = (one-outcome, one-outcome, one-outcome, one-outcome, one-outcome, one-outcome)
