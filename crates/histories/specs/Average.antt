@@ -8,12 +8,13 @@ use Rattle.runs.specs.Histories.{counted}
 use Rattle.speech_level_estimator.specs.Average as Level
 use Rattle.speech_level_estimator.specs.Estimator.{startingLevel}
 use Rattle.speech_level_estimator.specs.declared.Average.{Average}
-use Rattle.histories.specs.Histories.{Event, frame, isSpeech}
+use Rattle.histories.specs.Histories.{Event, frame, gap, isSpeech}
 
 -- the figures of the frames among some events
 unfoldable pub figuresIn : List Event → List Figures
 figuresIn [] = []
 figuresIn (frame f s ∷ es) = f ∷ figuresIn es
+figuresIn (gap ∷ es) = figuresIn es
 
 -- an average with frames more, by the sum and weight rules, leak included, each operation rounded
 unfoldable pub weighted : Average → List Figures → Average

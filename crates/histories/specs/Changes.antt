@@ -1,5 +1,5 @@
--- Two histories that differ only in speech runs that are shorter than the threshold and closed by a non-speech frame. Which runs these are is
--- said by the events alone; "a refused frame is not counted and does not end a speech run". Definitions only.
+-- Two histories that differ only in speech runs that are shorter than the threshold and closed by a non-speech frame or a gap. Which runs these are is
+-- said by the events alone; "a refused frame is not counted and does not end a speech run". A gap is never changed. Definitions only.
 use mathlib.Core.Path.{_≡_}
 use mathlib.Core.Bool.{Bool, true, false, _&&_, cond}
 use mathlib.Core.List.{List, [], _∷_}
@@ -17,7 +17,7 @@ unfolding isSpeech
 ahead [] = 0
 ahead (e ∷ es) = cond (isSpeech e) (suc (ahead es)) 0
 
--- whether a non-speech frame ends them
+-- whether a non-speech frame or a gap ends them
 unfoldable pub ends : List Event → Bool
 unfolding isSpeech
 ends [] = false
@@ -28,7 +28,7 @@ unfoldable pub grown : ℕ → ℕ → Event → ℕ
 unfolding takes isSpeech
 grown n k e = cond (takes n e) (cond (isSpeech e) (k + 1) 0) k
 
--- behind k adjacent speech frames, e is a speech frame of a run that is shorter than the threshold and closed by a non-speech frame
+-- behind k adjacent speech frames, e is a speech frame of a run that is shorter than the threshold and closed
 unfoldable pub inShort : ℕ → ℕ → ℕ → Event → List Event → Bool
 unfolding takes isSpeech onlyTaken ahead ends
 inShort n t k e es = takes n e && isSpeech e && ends (onlyTaken n es) && ltb (k + 1 + ahead (onlyTaken n es)) t

@@ -5,11 +5,12 @@ use Rattle.fixed_digital_level_estimator.specs.Range.{Held}
 use Rattle.chain.specs.Chain.{samplesOf}
 use Rattle.chain.specs.Held.{HeldFigures, Ready}
 use Rattle.chain.specs.declared.Chain.{Chain}
-use Rattle.histories.specs.Histories.{Event, frame}
+use Rattle.histories.specs.Histories.{Event, frame, gap}
 
 -- the numbers of an event are f32, which is what the borrow checker knows of what is handed in
 abbrev pub HeldEvent : Event → Type 0
 HeldEvent (frame f s) = HeldFigures f × Held (s .buffer)
+HeldEvent gap = Unit {0}
 
 -- a chain of n samples that passes
 pub record ReadyAt (n : ℕ) (c : Chain) : Type 0 where

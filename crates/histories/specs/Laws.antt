@@ -8,4 +8,7 @@ pub mod Agree
 pub mod Weighted
 pub mod Start
 pub mod Ends
+pub mod Confidence
+pub mod Gaps
+pub mod Longest
 pub mod Theorems

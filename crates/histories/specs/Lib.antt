@@ -2,5 +2,6 @@
 pub mod Histories
 pub mod Held
 pub mod Changes
+pub mod Longest
 pub mod Average
 pub mod Laws

@@ -1,6 +1,6 @@
 -- What the states along two histories say of their end: every changed run is closed by then, so the chains are the same. Laws.
 -- Assumes nothing.
-use mathlib.Core.Path.{_≡_, refl, _∙_}
+use mathlib.Core.Path.{_≡_, refl, sym, _∙_}
 use mathlib.Core.Bool.{Bool, true, false, _&&_, cond, false≢true}
 use mathlib.Core.List.{List, [], _∷_}
 use Prim.Native.Nat.{ℕ}
@@ -8,20 +8,16 @@ use Rattle.lists.specs.Tests.{each-of}
 use Rattle.chain.specs.declared.Chain.{Chain}
 use Rattle.histories.specs.Histories.{Event, isSpeech, takes, onlyTaken, next, after}
 use Rattle.histories.specs.Changes.{ends, inShort, Changed, end, same, other, opens, States}
+use Rattle.histories.specs.Laws.NoTrace.{ends-speech}
 
 module _ (n : ℕ) where
   -- A changed run that is open before an event, and will be closed, will be closed if it is still open after the event.
   still-closes : (o : Bool) (e : Event) (es : List Event) → (o ≡ true → ends (onlyTaken n (e ∷ es)) ≡ true) → opens n o e ≡ true → ends (onlyTaken n es) ≡ true
-  unfolding opens onlyTaken ends
+  unfolding opens onlyTaken
   still-closes o e es will = go (takes n e) will
     where
-      by-speech : (p x : Bool) → (p ≡ true → cond x (ends (onlyTaken n es)) true ≡ true) → p && x ≡ true → ends (onlyTaken n es) ≡ true
-      by-speech true true h k = h refl
-      by-speech true false h k = absurd (false≢true k)
-      by-speech false x h k = absurd (false≢true k)
-
       go : (b : Bool) → (o ≡ true → ends (cond b (e ∷ onlyTaken n es) (onlyTaken n es)) ≡ true) → cond b (o && isSpeech e) o ≡ true → ends (onlyTaken n es) ≡ true
-      go true h k = by-speech o (isSpeech e) h k
+      go true h k = let p = each-of (o ∷ isSpeech e ∷ []) k in sym (ends-speech e (onlyTaken n es) (p 1)) ∙ h (p 0)
       go false h k = h k
 
   nothing-ends : false ≡ ends (onlyTaken n [])

@@ -7,7 +7,7 @@ use native.Mathlib.Omega.{arith}
 use lib.Dec.{ltb}
 use borrow.Author.Tests.{ltb-true, ltb-false}
 use Rattle.units.specs.declared.settings.Settings.{Settings}
-use Rattle.runs.specs.Runs.{speech, longer}
+use Rattle.runs.specs.Runs.{speech, longer, closed, framed}
 use Rattle.runs.specs.Histories.{Settled}
 use Rattle.runs.specs.Laws.Counts.{held, held-longer, held-below, held-at}
 use Rattle.runs.specs.Laws.Short.{framed-settled}
@@ -20,10 +20,10 @@ use Rattle.adaptive_digital_gain_controller.specs.Change.{waits}
 use Rattle.adaptive_digital_gain_controller.specs.Controller as Gain
 use Rattle.adaptive_digital_gain_controller.specs.Calls.{with-applier}
 use Rattle.adaptive_digital_gain_controller.specs.Laws.Waiting.{closed-waits-again}
-use Rattle.chain.specs.Calls.{informed, stepped, fresh}
+use Rattle.chain.specs.Calls.{informed, stepped, interrupted, fresh}
 use Rattle.chain.specs.declared.Chain.{Chain}
 use Rattle.chain.specs.Laws.Steps.{heard}
-use Rattle.histories.specs.Histories.{Event, frame, isSpeech}
+use Rattle.histories.specs.Histories.{Event, frame, gap, isSpeech}
 use Rattle.histories.specs.Laws.Parts.{shownLevel, shownHeadroom, headroomOf}
 use Rattle.histories.specs.Laws.Steps.{stepOf, Beside, updated-count, analyzed-count}
 
@@ -63,7 +63,7 @@ new-good s t samples some =
 -- ---- an event
 module _ (t : ℕ) (c : Chain) (two : 1 < t) (h : Ground t c) where
   step-ground : (e : Event) → Ground t (stepOf c e .chain)
-  unfolding stepOf stepped Level.updated Headroom.analyzed Gain.decided with-applier
+  unfolding stepOf stepped interrupted Level.updated Level.interrupted Headroom.analyzed Headroom.interrupted Gain.decided Gain.interrupted with-applier framed
   step-ground (frame f s) =
       record {
         level = h .level;
@@ -72,20 +72,31 @@ module _ (t : ℕ) (c : Chain) (two : 1 < t) (h : Ground t c) where
         level-settled = framed-settled (c .estimator .threshold) (speech (f .probability)) (Average.advanced (f .rms .0) (f .probability)) (Level.run (c .estimator)) (rw (h .level) two) (h .level-settled);
         headroom-settled = framed-settled (c .protector .threshold) (speech (f .probability)) (Peaks.advanced (f .peak .0) (heard c f .level)) (Headroom.run (c .protector)) (rw (h .headroom) two) (h .headroom-settled);
       }
+  step-ground gap =
+      record {
+        level = h .level;
+        headroom = h .headroom;
+        gain = h .gain;
+        level-settled = framed-settled (c .estimator .threshold) false (λ x. x) (Level.run (c .estimator)) (rw (h .level) two) (h .level-settled);
+        headroom-settled = framed-settled (c .protector .threshold) false (λ x. x) (Headroom.run (c .protector)) (rw (h .headroom) two) (h .headroom-settled);
+      }
 
   level-counts : (e : Event) → stepOf c e .chain .estimator .count ≡ cond (isSpeech e) (longer t (c .estimator .count)) 0
-  unfolding stepOf stepped isSpeech
+  unfolding stepOf stepped interrupted Level.interrupted closed isSpeech
   level-counts (frame f s) = updated-count (c .estimator) (f .rms .0) (f .probability) ∙ ap (λ (z : ℕ). cond (speech (f .probability)) (longer z (c .estimator .count)) 0) (h .level)
+  level-counts gap = refl
 
   headroom-counts : (e : Event) → stepOf c e .chain .protector .count ≡ cond (isSpeech e) (longer t (c .protector .count)) 0
-  unfolding stepOf stepped isSpeech
+  unfolding stepOf stepped interrupted Headroom.interrupted closed isSpeech
   headroom-counts (frame f s) =
       analyzed-count (c .protector) (f .probability) (f .peak .0) (heard c f .level)
       ∙ ap (λ (z : ℕ). cond (speech (f .probability)) (longer z (c .protector .count)) 0) (h .headroom)
+  headroom-counts gap = refl
 
   gain-waits : (e : Event) → stepOf c e .chain .controller .waiting ≡ waits (isSpeech e) t (c .controller .waiting)
-  unfolding stepOf stepped isSpeech Gain.decided with-applier informed
+  unfolding stepOf stepped interrupted isSpeech Gain.decided Gain.interrupted with-applier informed waits
   gain-waits (frame f s) = ap (λ (z : ℕ). waits (speech (f .probability)) z (c .controller .waiting)) (h .gain)
+  gain-waits gap = h .gain
 
 -- the count of a run after an event
 abbrev pub run-after : Bool → ℕ → ℕ
@@ -120,7 +131,7 @@ step-good t k c two h e =
       waiting = gain-waits t c two (h .ground) e ∙ ap (λ (z : ℕ). waits b t z) (h .waiting) ∙ waits-on b t k some;
     }
 
--- After a non-speech event no run is open, whatever the counts were.
+-- After an event that is not speech no run is open, whatever the counts were.
 pub closed-good : (t : ℕ) (c : Chain) → 1 < t → Ground t c → (e : Event) → isSpeech e ≡ false → Good t 0 (stepOf c e .chain)
 closed-good t c two h e silent =
     let zero : 0 ≡ held t 0 = sym (held-below t 0 (omega (arith, two))) in

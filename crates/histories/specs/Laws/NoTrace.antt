@@ -2,13 +2,13 @@
 -- the same wherever no changed run is open. Laws over the steps; `Close` is what is kept from event to event.
 -- Assumes nothing.
 use mathlib.Core.Path.{_≡_, refl, sym, ap, subst, _∙_}
-use mathlib.Core.Bool.{Bool, true, false, _&&_}
+use mathlib.Core.Bool.{Bool, true, false, _&&_, false≢true}
 use mathlib.Core.List.{List, _∷_}
 use Prim.Native.Nat.{ℕ, suc, _+_, _<_}
 use native.Mathlib.Omega.{arith}
 use Rattle.chain.specs.declared.Chain.{Chain}
 use Rattle.units.specs.declared.figures.Figures.{Figures}
-use Rattle.histories.specs.Histories.{Sound, Event, frame, isSpeech}
+use Rattle.histories.specs.Histories.{Sound, Event, frame, gap, isSpeech}
 use Rattle.histories.specs.Changes.{ahead, ends, Silenced, silenced}
 use Rattle.histories.specs.Laws.Steps.{Step, stepOf, Beside, step-stays, step-same, step-closes}
 use Rattle.histories.specs.Laws.Ground.{Good, run-after, step-good, closed-good, good-beside, beside-ground}
@@ -24,11 +24,11 @@ abbrev pub Alike : ℕ → ℕ → Bool → List Event → Step → Step → Typ
 Alike t k o es x y = (x .out ≡ y .out) × Close t k o es (x .chain) (y .chain)
 
 -- the events behind a speech frame
-ahead-speech : (e : Event) (es : List Event) → isSpeech e ≡ true → ahead (e ∷ es) ≡ suc (ahead es)
+pub ahead-speech : (e : Event) (es : List Event) → isSpeech e ≡ true → ahead (e ∷ es) ≡ suc (ahead es)
 unfolding ahead
 ahead-speech e es h = rw h refl
 
-ends-speech : (e : Event) (es : List Event) → isSpeech e ≡ true → ends (e ∷ es) ≡ ends es
+pub ends-speech : (e : Event) (es : List Event) → isSpeech e ≡ true → ends (e ∷ es) ≡ ends es
 unfolding ends
 ends-speech e es h = rw h refl
 
@@ -43,7 +43,9 @@ module _ (t : ℕ) (two : 1 < t) where
 
   -- the same speech frame to two chains beside each other
   joins : (k : ℕ) (e : Event) (es : List Event) (a b : Chain) → Beside t k a b → isSpeech e ≡ true → k + 1 + ahead es < t → ends es ≡ true → Alike t (k + 1) true es (stepOf a e) (stepOf b e)
+  unfolding isSpeech
   joins k (frame f s) es a b n spoken few closed = runs-on k f f s es a b n spoken few closed refl refl
+  joins k gap es a b n spoken few closed = absurd (false≢true spoken)
 
   -- The same event to both chains.
   pub same-step : (k : ℕ) (o : Bool) (e : Event) (es : List Event) (a b : Chain) → Close t k o (e ∷ es) a b

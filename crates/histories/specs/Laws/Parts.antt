@@ -1,11 +1,12 @@
--- What a frame does to each part of a chain, where no run reaches the threshold by it: nothing new is published, and the gain does not rise. Laws.
+-- What a frame does to each part of a chain, where no run reaches the threshold by it: nothing new is published, and the gain does not rise. And what a
+-- gap does: it closes a run as a frame does that is not speech. Laws.
 -- Assumes nothing.
 use mathlib.Core.Path.{_≡_, refl, sym, ap, _∙_}
 use mathlib.Core.Bool.{Bool, true, false, _||_}
 use Prim.Native.Nat.{ℕ, _+_, _≤_, _<_}
 use native.Mathlib.Omega.{arith}
 use lib.Dec.{eqb}
-use lib.Ieee.{Float, binary32, add}
+use lib.Ieee.{Float, binary32, ofBits, add, le, lt, eq}
 use borrow.Author.Tests.{lt-leb, ne-eqb}
 use Rattle.units.specs.declared.settings.Settings.{Settings}
 use Rattle.runs.specs.Runs.{speech}
@@ -13,10 +14,12 @@ use Rattle.runs.specs.Histories.{Frame, Shown, showing}
 use Rattle.runs.specs.Laws.Near.{Near, near-stays, near-closed}
 use Rattle.speech_level_estimator.specs.Average as Average
 use Rattle.speech_level_estimator.specs.Estimator as Level
+use Rattle.speech_level_estimator.specs.Laws.Gaps as LevelGaps
 use Rattle.speech_level_estimator.specs.declared.Average.{Average as LevelState}
 use Rattle.speech_level_estimator.specs.declared.Estimator.{Estimator}
 use Rattle.saturation_protector.specs.Peaks as Peaks
 use Rattle.saturation_protector.specs.Protector as Headroom
+use Rattle.saturation_protector.specs.Laws.Gaps as HeadroomGaps
 use Rattle.saturation_protector.specs.declared.Peaks.{Peaks as PeakState}
 use Rattle.saturation_protector.specs.declared.Protector.{Protector}
 use Rattle.gain_applier.specs.declared.Applier.{Applier}
@@ -26,6 +29,14 @@ use Rattle.adaptive_digital_gain_controller.specs.Controller as Gain
 use Rattle.adaptive_digital_gain_controller.specs.Laws.Waiting.{closed-waits-again}
 use Rattle.adaptive_digital_gain_controller.specs.declared.Info.{Info}
 use Rattle.adaptive_digital_gain_controller.specs.declared.Controller.{Controller}
+
+-- ---- a frame that is not speech, which stands for a gap: all its figures are 0
+abbrev pub nought : Float
+nought = ofBits binary32 0x0000_0000
+
+pub nought-silent : speech nought ≡ false
+unfolding ofBits le lt eq
+nought-silent = refl
 
 -- ---- the level estimator, as `runs` has it
 -- its run, and the level that was published last
@@ -102,6 +113,11 @@ module _ (t : ℕ) (a b : Estimator) (two : 1 < t) (n : LevelBeside t a b) where
       ∙ rw (n .settings, n .initial, near-closed Average.level t (levelFrame r p) (shownLevel a) (shownLevel b) two (n .near) silent) refl
       ∙ sym (second-is r p)
 
+  -- And so after a gap.
+  pub level-interrupted : Level.interrupted a ≡ Level.interrupted b
+  level-interrupted =
+      LevelGaps.interrupted-is-quiet a nought nought nought-silent ∙ level-closes nought nought nought-silent ∙ sym (LevelGaps.interrupted-is-quiet b nought nought nought-silent)
+
 -- Two estimators that differ only in a run below the threshold publish the same level,
 pub level-published : (t : ℕ) (a b : Estimator) → LevelBeside t a b → a .level ≡ b .level
 level-published t a b n = n .near .value
@@ -158,6 +174,13 @@ module _ (t : ℕ) (a b : Protector) (two : 1 < t) (n : HeadroomBeside t a b) wh
       first-headroom p peak level
       ∙ rw (n .initial, near-closed headroomOf t (headroomFrame p peak level) (shownHeadroom a) (shownHeadroom b) two (n .near) silent) refl
       ∙ sym (second-headroom p peak level)
+
+  -- And so after a gap.
+  pub headroom-interrupted : Headroom.interrupted a ≡ Headroom.interrupted b
+  headroom-interrupted =
+      HeadroomGaps.interrupted-is-quiet a nought nought nought nought-silent
+      ∙ headroom-closes nought nought nought nought-silent
+      ∙ sym (HeadroomGaps.interrupted-is-quiet b nought nought nought nought-silent)
 
 -- ---- the controller
 -- the controller after a frame at which the gain may not rise
@@ -250,3 +273,8 @@ module _ (t k : ℕ) (a b : Controller) (i j : Info) (n : GainBeside t k a b) (s
       decided-is a i t t (n .first) (closed-waits-again (speech (i .probability)) t (a .waiting) silent) some
       ∙ rw (n .applier, n .settings, n .change, n .gain, same-target (b .settings) (b .gain) i j same) refl
       ∙ sym (decided-is b j t t (n .second) (closed-waits-again (speech (j .probability)) t (b .waiting) other) some)
+
+-- After a gap they are the same too: of both all frames are to come again.
+pub gain-interrupted : (t k : ℕ) (a b : Controller) → GainBeside t k a b → Gain.interrupted a ≡ Gain.interrupted b
+unfolding Gain.interrupted
+gain-interrupted t k a b n = rw (n .applier, n .settings, n .change, n .gain, n .first, n .second) refl

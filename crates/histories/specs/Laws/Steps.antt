@@ -2,7 +2,7 @@
 -- Assumes nothing.
 use mathlib.Core.Path.{_≡_, refl, sym, ap, _∙_}
 use mathlib.Core.Bool.{Bool, true, false, cond, false≢true}
-use mathlib.Core.List.{List}
+use mathlib.Core.List.{List, []}
 use Prim.Native.Nat.{ℕ, _+_, _≤_, _<_}
 use native.Mathlib.Omega.{arith}
 use lib.Dec.{eqb}
@@ -24,23 +24,28 @@ use Rattle.adaptive_digital_gain_controller.specs.declared.Controller.{Controll
 use Rattle.limiter.specs.Limiter as Limiting
 use Rattle.limiter.specs.declared.Limiter.{Limiter}
 use Rattle.chain.specs.Chain.{published}
-use Rattle.chain.specs.Calls.{informed, stepped}
+use Rattle.chain.specs.Calls.{informed, stepped, interrupted}
 use Rattle.chain.specs.Laws.Steps.{heard, safe, info}
 use Rattle.chain.specs.declared.Chain.{Chain}
 use Rattle.units.specs.declared.figures.Figures.{Figures}
-use Rattle.histories.specs.Histories.{Sound, Event, frame, isSpeech, Out}
-use Rattle.histories.specs.Laws.Parts.{LevelBeside, level-stays, level-closes, trusted-below, HeadroomBeside, headroom-stays, headroom-closes, GainBeside, InfoBeside, gain-stays, gain-closes}
+use Rattle.histories.specs.Histories.{Sound, Event, frame, gap, isSpeech, Out}
+use Rattle.histories.specs.Laws.Parts.{LevelBeside, level-stays, level-closes, level-interrupted, trusted-below, HeadroomBeside, headroom-stays, headroom-closes, headroom-interrupted, GainBeside, InfoBeside, gain-stays, gain-closes, gain-interrupted}
 
 -- what a chain makes of an event that it takes: the chain after it, and what comes out
 pub record Step : Type 0 where
   pub chain : Chain
   pub out : Out
 
+-- what a gap comes to: the chain after it, and no sound
+abbrev silent-step : Chain → Step
+silent-step c = record { chain = c; out = record { figures = published c; sound = [] } }
+
 unfoldable pub stepOf : Chain → Event → Step
-unfolding stepped
+unfolding stepped interrupted
 stepOf c (frame f s) =
     let step = stepped c f (s .buffer) (s .channels) (s .samples) in
     record { chain = step .chain; out = record { figures = published (step .chain); sound = step .frame } }
+stepOf c gap = silent-step (interrupted c)
 
 -- ---- what an update leaves of the estimator, and an analysis of the protector
 pub updated-count : (e : Estimator) (r p : Float) → Level.updated e r p .count ≡ cond (speech p) (longer (e .threshold) (e .count)) 0
@@ -201,9 +206,16 @@ same-infos : (e d : Estimator) (p q : Protector) (f : Figures) → e ≡ d → p
 unfolding informed
 same-infos e d p q f first second = rw (first, second) (record { level = refl; reliable = refl; noise = refl; headroom = refl; envelope = refl })
 
--- After the same non-speech event both chains are the same, and so is what comes out.
+-- After a gap both chains are the same.
+interrupted-same : (t k : ℕ) (a b : Chain) → 1 < t → Beside t k a b → interrupted a ≡ interrupted b
+unfolding interrupted
+interrupted-same t k a b two n =
+    rw (level-interrupted t (a .estimator) (b .estimator) two (n .level), headroom-interrupted t (a .protector) (b .protector) two (n .headroom), gain-interrupted t k (a .controller) (b .controller) (n .gain), n .limiter)
+    refl
+
+-- After the same event that is not speech both chains are the same, and so is what comes out.
 pub step-closes : (t k : ℕ) (a b : Chain) → 1 < t → Beside t k a b → (e : Event) → isSpeech e ≡ false → stepOf a e ≡ stepOf b e
-unfolding informed isSpeech
+unfolding informed isSpeech stepOf
 step-closes t k a b two n (frame f s) silent =
     let levels : heard a f ≡ heard b f = level-closes t (a .estimator) (b .estimator) two (n .level) (f .rms .0) (f .probability) silent in
     let headrooms : safe a f ≡ safe b f =
@@ -212,3 +224,4 @@ step-closes t k a b two n (frame f s) silent =
     let infos = same-infos (heard a f) (heard b f) (safe a f) (safe b f) f levels headrooms in
     let gains : chosen a f ≡ chosen b f = gain-closes t k (a .controller) (b .controller) (info a f) (info b f) (n .gain) infos silent silent (omega (arith, two)) in
     joined-is a f s ∙ joined-same s levels headrooms gains (n .limiter) ∙ sym (joined-is b f s)
+step-closes t k a b two n gap silent = ap silent-step (interrupted-same t k a b two n)

@@ -1,14 +1,14 @@
--- The theorems on histories, refused calls included: demand 3 for every new chain, and full scale for every chain that passes. That the numbers of
--- the events are f32 is all that is asked of them. The promise of the chain's step joins the theorems to the code.
+-- The theorems on histories of frames and gaps, refused calls included: demand 3 for every new chain, what a gap does, and full scale for every chain that
+-- passes. That the numbers of the events are f32 is all that is asked of them. The promises of the chain's step and gap join the theorems to the code.
 -- Assumes nothing.
 use mathlib.Core.Path.{_≡_, refl, sym, ap, subst, _∙_}
 use mathlib.Core.Bool.{Bool, true, false, _&&_, cond, false≢true}
-use mathlib.Core.List.{List, [], _∷_}
-use Prim.Native.Nat.{ℕ, _<_}
+use mathlib.Core.List.{List, [], _∷_, _++_}
+use Prim.Native.Nat.{ℕ, _+_, _<_}
 use native.Mathlib.Omega.{arith}
-use borrow.Author.Tests.{leb-true}
-use Rattle.lists.specs.Each.{Each}
-use Rattle.lists.specs.Tests.{each-of}
+use borrow.Author.Tests.{leb-true, lt-ltb}
+use Rattle.lists.specs.Each.{Each, each-append}
+use Rattle.lists.specs.Tests.{each-of, _and_}
 use Rattle.floats.specs.Laws.Kinds.{passed as holds}
 use Rattle.units.specs.Replies.{done}
 use Rattle.units.specs.Laws.Replies.{none-refused}
@@ -21,19 +21,23 @@ use Rattle.speech_level_estimator.specs.Laws.Level.{starting-level-in, wider}
 use Rattle.adaptive_digital_gain_controller.specs.Range.{HeldSettings}
 use Rattle.limiter.specs.Scale.{FullScale}
 use Rattle.chain.specs.Chain.{published}
-use Rattle.chain.specs.Calls.{made}
+use Rattle.chain.specs.Calls.{made, fresh}
 use Rattle.chain.specs.declared.Chain.{Chain}
 use Rattle.chain.specs.Laws.Start.{made-fresh, made-ready, made-samples}
-use Rattle.histories.specs.Histories.{Event, takes, next, after, onlyTaken, Out, out, outputs, outputsTaken}
+use Rattle.histories.specs.Histories.{Event, gap, isSpeech, takes, next, after, onlyTaken, Out, out, outputs, outputsTaken}
 use Rattle.histories.specs.Held.{HeldEvent, ReadyAt}
-use Rattle.histories.specs.Changes.{Changed, States}
-use Rattle.histories.specs.Average.{averageLevel}
+use Rattle.histories.specs.Changes.{ahead, ends, inShort, Changed, States}
+use Rattle.histories.specs.Average.{figuresIn, weighted, averageLevel}
+use Rattle.histories.specs.Longest.{longest}
 use Rattle.histories.specs.Laws.Ground.{Good, new-good}
-use Rattle.histories.specs.Laws.Calls.{next-refused, next-ready, out-full-scale}
+use Rattle.histories.specs.Laws.Calls.{next-refused, next-ready, after-ready, out-full-scale}
 use Rattle.histories.specs.Laws.Agree.{no-difference}
 use Rattle.histories.specs.Laws.Ends.{same-at-end}
 use Rattle.histories.specs.Laws.Weighted.{level-after}
 use Rattle.histories.specs.Laws.Start.{level-starting, at-most-minus-twenty}
+use Rattle.histories.specs.Laws.Confidence.{Sure, new-sure, sure-after}
+use Rattle.histories.specs.Laws.Gaps.{gap-alike, gap-publishes}
+use Rattle.histories.specs.Laws.Longest.{none-counted, longest-parted, only-parted}
 
 -- ---- refused calls
 -- "A refused call leaves [the chain] where it was, so a history is that of the accepted calls": a history leads where its accepted events alone lead, and
@@ -122,6 +126,44 @@ module _ (s : Set) (t n : ℕ) (held : HeldSettings s) (new : made s t n .reply 
   published-average es numbers =
       ap (λ (c : Chain). after c es .estimator .level) (made-fresh s t n held new)
       ∙ level-after n t s n es (leb-true 1 t (each-of (_ ∷ _ ∷ []) (settings-taken .1) 0)) start-level (subst (ReadyAt n) (made-fresh s t n held new) chain-ready) numbers
+
+  -- ---- gaps
+  chain-sure : Sure (chain .estimator)
+  unfolding fresh
+  chain-sure = rw (made-fresh s t n held new) (new-sure s t (startingLevel s))
+
+  -- A gap "moves no gain", and no other published figure: after any history level, headroom, gain and confidence are as they were before it. Also for a
+  -- threshold of 1.
+  pub gap-changes-no-figure : (es : List Event) → Each HeldEvent es → published (next (after chain es) gap) ≡ published (after chain es)
+  gap-changes-no-figure es numbers = gap-publishes n (after chain es) (after-ready n chain es chain-ready numbers) (sure-after n chain es chain-ready numbers chain-sure)
+
+  -- Where no run reaches the threshold, the published level stays the starting level.
+  pub short-runs-unpublished : (es : List Event) → Each HeldEvent es → longest (onlyTaken n es) < t → published (after chain es) .level .0 ≡ startingLevel s
+  unfolding averageLevel weighted figuresIn
+  short-runs-unpublished es numbers short =
+      published-average es numbers
+      ∙ ap (λ (fs : List Event). Level.level (weighted (Level.starting (startingLevel s)) (figuresIn fs))) (none-counted t (onlyTaken n es) short)
+      ∙ start-level
+
+  -- "A lost frame must break the run": speech frames on either side of a gap are not joined. Where no run before it and none after it reaches the threshold,
+  -- none does.
+  pub no-run-joined : (es ds : List Event) → Each HeldEvent es → Each HeldEvent ds → longest (onlyTaken n es) < t → longest (onlyTaken n ds) < t
+      → published (after chain (es ++ gap ∷ ds)) .level .0 ≡ startingLevel s
+  unfolding Each
+  no-run-joined es ds first second before behind =
+      short-runs-unpublished (es ++ gap ∷ ds) (each-append HeldEvent es (gap ∷ ds) first (tt, second))
+      (rw (only-parted n es ds) (omega (arith, longest-parted (onlyTaken n es) (onlyTaken n ds), before, behind)))
+
+-- "It ends the run as a non-speech frame does, sets the controller's waiting count back to T": a gap leaves the estimator, the protector and the waiting
+-- count that any event leaves that is taken and is not speech.
+pub gap-ends-the-run : (n : ℕ) (c : Chain) (e : Event) → ReadyAt n c → takes n e ≡ true → isSpeech e ≡ false
+    → (next c gap .estimator ≡ next c e .estimator) × (next c gap .protector ≡ next c e .protector) × (next c gap .controller .waiting ≡ next c e .controller .waiting)
+gap-ends-the-run n c e r taken silent = gap-alike n c r e taken silent
+
+-- "a gap closes a run too": a speech frame before a gap belongs to a run that is closed there, so that demand 3 speaks of it where the run is short.
+pub gap-closes-a-run : (n t k : ℕ) (e : Event) (es : List Event) → takes n e ≡ true → isSpeech e ≡ true → k + 1 < t → inShort n t k e (gap ∷ es) ≡ true
+unfolding inShort onlyTaken takes ends ahead isSpeech
+gap-closes-a-run n t k e es taken spoken short = taken and spoken and refl and lt-ltb (k + 1 + 0) t (omega (arith, short))
 
 -- ---- full scale
 -- "Every sample that comes out of any accepted chain step lies between -32768 and 32767":

@@ -9,14 +9,15 @@ use lib.ListN.{length}
 use lib.Ieee.{Float}
 use Rattle.lists.specs.Each.{Each}
 use Rattle.units.specs.declared.settings.Settings.{Settings}
+use Rattle.runs.specs.Runs.{framed, published}
 use Rattle.runs.specs.Histories.{Frame, advancedBy, reached, counting, counted, Shown, showing, shownAfter}
 use Rattle.runs.specs.Laws.Published.{published-after}
 use Rattle.speech_level_estimator.specs.Average as Level
 use Rattle.speech_level_estimator.specs.Estimator as Estimators
 use Rattle.speech_level_estimator.specs.declared.Average.{Average}
-use Rattle.chain.specs.Calls.{stepped, fresh}
+use Rattle.chain.specs.Calls.{stepped, interrupted, fresh}
 use Rattle.chain.specs.declared.Chain.{Chain}
-use Rattle.histories.specs.Histories.{Event, frame, isSpeech, takes, onlyTaken, next, after}
+use Rattle.histories.specs.Histories.{Event, frame, gap, isSpeech, takes, onlyTaken, next, after}
 use Rattle.histories.specs.Held.{HeldEvent, ReadyAt}
 use Rattle.histories.specs.Average.{figuresIn, weighted, averageLevel}
 use Rattle.histories.specs.Laws.Parts.{shownLevel, levelFrame}
@@ -59,29 +60,34 @@ module _ {A B : Type 0} (g : A → B) (t : ℕ) where
       go true e f = e
       go false e f = rw (reached-map run, f) (sym (map-append (reached t run) (counting p t [] xs)))
 
--- ---- an event as the run of the level meets it
+-- ---- an event as the run of the level meets it: a gap is no speech, and no average advances by it
 unfoldable frameOf : Event → Frame Average
 frameOf (frame f s) = levelFrame (f .rms .0) (f .probability)
+frameOf gap = record { speech = false; advance = λ a. a }
 
 frame-speech : (e : Event) → frameOf e .speech ≡ isSpeech e
 unfolding frameOf isSpeech
 frame-speech (frame f s) = refl
+frame-speech gap = refl
 
 -- An average that events advance is one with their figures more.
 weighted-map : (a : Average) (es : List Event) → advancedBy a (map frameOf es) ≡ weighted a (figuresIn es)
 unfolding advancedBy weighted figuresIn frameOf
 weighted-map a [] = refl
 weighted-map a (frame f s ∷ es) = weighted-map (Level.advanced (f .rms .0) (f .probability) a) es
+weighted-map a (gap ∷ es) = weighted-map a es
 
 -- ---- the level estimator of a chain after a history
--- a step is an update of the estimator
+-- a step is an event to the run of the estimator, and to what it publishes
 step-shown : (c : Chain) (e : Event) → shownLevel (stepOf c e .chain .estimator) ≡ showing Level.level (c .estimator .threshold) (frameOf e) (shownLevel (c .estimator))
-unfolding stepOf stepped Estimators.updated showing frameOf
+unfolding stepOf stepped interrupted Estimators.updated Estimators.interrupted showing framed published frameOf
 step-shown c (frame f s) = refl
+step-shown c gap = refl
 
 step-threshold : (c : Chain) (e : Event) → stepOf c e .chain .estimator .threshold ≡ c .estimator .threshold
-unfolding stepOf stepped Estimators.updated
+unfolding stepOf stepped interrupted Estimators.updated Estimators.interrupted
 step-threshold c (frame f s) = refl
+step-threshold c gap = refl
 
 module _ (n t : ℕ) where
   abbrev shownBy : Shown Average Float → List Event → Shown Average Float
