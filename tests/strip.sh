@@ -27,6 +27,11 @@ same "strip: a strip that is read to its end ends with status 0" 0 $?
 same_file "strip: the paper's strip, to the byte" "$room/paper" "$room/got"
 run <"$twin" >"$room/got"
 same_file "strip: the paper's strip in version 2: the same lines, to the byte" "$room/paper" "$room/got"
+# With a gap before its last record that is W, and not P: the run is broken, and no figure moves.
+broken=tests/strips/version-2-gap-paper.strip
+{ head -n 4 "$room/paper"; echo 5 G -4000 2000 1500 0; echo 6 W -4000 2000 1500 0; } >"$room/broken"
+run <"$broken" >"$room/got"
+same_file "strip: the paper's strip in version 2 with a gap before its last record, to the byte" "$room/broken" "$room/got"
 run <tests/strips/record-2-no-number.strip >"$room/got"
 same "strip: a strip that is refused ends with status 0 too" 0 $?
 
@@ -51,6 +56,26 @@ same "strip: the stored lines end as the names of their strips say" "" \
         [ "$last" = "$said" ] || echo "$name: $last"
     done)"
 
+# Gaps: with a T of 2 a frame of speech on either side of one never publishes, and without it the second does.
+kinds() { run <"tests/strips/$1.strip" | cut -d' ' -f2 | paste -sd' '; } # NAME
+same "strip: speech, a gap and speech, with a T of 2" "W G W" "$(kinds version-2-gap)"
+same "strip: the same speech without the gap" "W P" "$(kinds version-2-no-gap)"
+same "strip: with a T of 3, two frames of speech, a gap and two frames" "W W G W W" "$(kinds version-2-gap-threshold-3)"
+same "strip: with a T of 3, the same speech without the gap" "W W P P" "$(kinds version-2-no-gap-threshold-3)"
+same "strip: a reading behind a gap" "G W P" "$(kinds version-2-gap-first)"
+same "strip: with a T of 1 each frame of speech counts, also behind a gap" "P G P" "$(kinds version-2-gap-threshold-1)"
+same "strip: each stored line has the next number, and a gap's has the figures of the line before it" "" \
+    "$(awk '{ figures = $3 " " $4 " " $5 " " $6 }
+        ($2 != "R" && $1 != FNR) || ($2 == "G" && FNR > 1 && figures != last) { print FILENAME ": " $0 }
+        { last = figures }' tests/strips/*.lines)"
+# 5,000 gaps, more than a block holds, whose end is in the middle of one.
+{ head -c 27 "$twin" && head -c 10000 /dev/zero; } | run >"$room/got"
+same_file "strip: 5,000 gaps: each has its number, and no figure moves" <(seq -f '%.0f G -4000 2000 1500 0' 5000) "$room/got"
+{ head -c 27 "$twin" && head -c 9999 /dev/zero; } | run >"$room/got"
+same "strip: 4,999 gaps and a half: the last lines" "4999 G -4000 2000 1500 0,5000 R 5" "$(tail -n 2 "$room/got" | paste -sd,)"
+{ head -c 26 "$paper" && head -c 10000 /dev/zero; } | run >"$room/got"
+same "strip: in version 1 a length of 0 is refused with 6" "1 R 6" "$(cat "$room/got")"
+
 # Version 2 with a T of 3,000, thirty seconds: 2,999 lines wait, and the 3,000th publishes.
 tests/strips/waits strip >"$room/waits.strip"
 tests/strips/waits lines >"$room/due"
@@ -58,6 +83,11 @@ run <"$room/waits.strip" >"$room/got"
 same_file "strip: with a T of 3,000, each line to the byte" "$room/due" "$room/got"
 same "strip: with a T of 3,000, 2,999 lines are W, the 3,000th is the first P, and the next two are P and N" \
     "2999 W 2 P 1 N" "$(cut -d' ' -f2 "$room/got" | uniq -c | xargs)"
+# And 2,999 frames, a gap and 2,999 frames never publish.
+tests/strips/waits strip gap >"$room/waits.strip"
+tests/strips/waits lines gap >"$room/due"
+run <"$room/waits.strip" >"$room/got"
+same_file "strip: with a T of 3,000, a gap after 2,999 frames and 2,999 frames after it, each line to the byte" "$room/due" "$room/got"
 
 # The last act is to write the reply to descriptor 3, with no line end: the number of the refusal in the last line, and 0 where
 # there is none. Nothing is written there where a read or a write failed.
@@ -103,7 +133,7 @@ within() { # COMMAND..: yes where it succeeds within a second
     done
     echo no
 }
-live() { # starts the program on a strip that descriptor 4 feeds, and gives it a head
+live() { # STRIP BYTES: starts the program on a strip that descriptor 4 feeds, and gives it so many bytes, a head
     rm -f "$room/live" && mkfifo "$room/live"
     tests/run-program strip <"$room/live" >"$room/got" 2>"$room/err" 3>"$room/reply" &
     program=$!
@@ -113,12 +143,12 @@ live() { # starts the program on a strip that descriptor 4 feeds, and gives it a
         if tr '\0' '\n' <"/proc/$program/cmdline" 2>/dev/null | grep -q 'target/bin/strip$'; then break; fi
         sleep 0.01
     done
-    head -c 26 "$paper" >&4
+    head -c "$2" "$1" >&4
 }
 record() { tail -c "+$((5 + 22 * $1))" "$paper" | head -c 22 >&4; } # NUMBER
 has_lines() { [ "$(wc -l <"$room/got")" -ge "$1" ]; } # COUNT
 is_over() { ! kill -0 "$program"; } 2>/dev/null
-live
+live "$paper" 26
 for number in 1 2 3; do
     record $number
     same "strip: a live strip: the line of record $number within a second" yes "$(within has_lines $number)"
@@ -129,7 +159,7 @@ exec 4>&-
 wait "$program"
 told "a live strip that ends" 0
 same "strip: a live strip: nothing is told" "" "$(cat "$room/err")"
-live
+live "$paper" 26
 record 1
 printf '\0\x15' >&4
 same "strip: a live strip that is refused ends within a second" yes "$(within is_over)"
@@ -137,13 +167,21 @@ told "a live strip that is refused" 6
 same_file "strip: a live strip that is refused: the lines" <(head -n 1 "$room/paper"; echo 2 R 6) "$room/got"
 wait "$program"
 exec 4>&-
-live
+live "$paper" 26
 record 1
 same "strip: a live strip whose program is killed: the first line" yes "$(within has_lines 1)"
 { kill -KILL "$program" && wait "$program"; } 2>/dev/null
 same "strip: a live strip whose program is killed: its status" 137 $?
 exec 4>&-
 told "a live strip whose program is killed" ""
+live "$twin" 27
+record 1
+printf '\0\0' >&4
+same "strip: a live strip with a gap: its line within a second" yes "$(within has_lines 2)"
+same_file "strip: a live strip with a gap: the lines up to it" <(head -n 1 "$room/paper"; echo 2 G -4000 2000 1500 0) "$room/got"
+exec 4>&-
+wait "$program"
+told "a live strip with a gap" 0
 
 run <examples/service.strip >"$room/got" 3>"$room/reply"
 same_file "strip: the example service" examples/service.lines "$room/got"
@@ -151,41 +189,45 @@ told "the example service" 0
 same "strip: in the example the cough moves no figure" "-3825 1998 1327 1" \
     "$(sed -n 50,74p "$room/got" | cut -d' ' -f3- | sort -u)"
 
-# Cut at each byte: a head that is cut ends with 0 R 5; then, for each record of 22, the lines of those
-# before it, and at its end nothing more, and inside it 5. A head has 26 bytes, and in version 2 27.
-cut_anywhere() { # NAME STRIP HEAD
+# Cut at each byte: a head that is cut ends with 0 R 5; then, for each record, the lines of those before it, and at its end
+# nothing more, and inside it 5. A head has 26 bytes, and in version 2 27; a record has 22, and a gap 2.
+cut_anywhere() { # NAME STRIP LINES HEAD RECORD..: the bytes of its head and of its records
+    local name=$1 strip=$2 lines=$3 ends=("$4") whole=0 bytes n
+    for bytes in "${@:5}"; do ends+=($((ends[-1] + bytes))); done
     : >"$room/due" && : >"$room/got"
-    for ((n = 0; n <= $3 + 110; n++)); do
+    for ((n = 0; n <= ends[-1]; n++)); do
         echo "$n bytes:" | tee -a "$room/due" >>"$room/got"
-        head -c "$n" "$2" | run >>"$room/got"
-        if [ "$n" -lt "$3" ]; then
+        head -c "$n" "$strip" | run >>"$room/got"
+        if [ "$n" -lt "${ends[0]}" ]; then
             echo "0 R 5" >>"$room/due"
-        else
-            whole=$(((n - $3) / 22))
-            head -n "$whole" "$room/paper" >>"$room/due"
-            if [ $(((n - $3) % 22)) -ne 0 ]; then echo "$((whole + 1)) R 5" >>"$room/due"; fi
+            continue
         fi
+        if [ "$n" -eq "${ends[whole + 1]:-0}" ]; then whole=$((whole + 1)); fi
+        head -n "$whole" "$lines" >>"$room/due"
+        if [ "$n" -ne "${ends[whole]}" ]; then echo "$((whole + 1)) R 5" >>"$room/due"; fi
     done
-    same_file "strip: $1: cut at each byte of its head and of its five records" "$room/due" "$room/got"
+    same_file "strip: $name: cut at each byte of its head and of its records" "$room/due" "$room/got"
 }
-cut_anywhere "version 1" "$paper" 26
-cut_anywhere "version 2" "$twin" 27
+cut_anywhere "version 1" "$paper" "$room/paper" 26 22 22 22 22 22
+cut_anywhere "version 2" "$twin" "$room/paper" 27 22 22 22 22 22
+cut_anywhere "version 2 with a gap" "$broken" "$room/broken" 27 22 22 22 22 2 22
 same "strip: no byte at all is a head that is cut" "0 R 5" "$(run </dev/null)"
 
 # However the bytes come.
-in_pieces() { # NAME STRIP
-    for cut in 1 2 3 4 5 25 26 27 28 29 47 48 49 50; do
-        { head -c "$cut" "$2"; sleep 0.05; tail -c "+$((cut + 1))" "$2"; } | run | cmp -s - "$room/paper" || echo "at $cut"
+in_pieces() { # NAME STRIP LINES
+    for cut in 1 2 3 4 5 25 26 27 28 29 47 48 49 50 114 115 116 117 118; do
+        { head -c "$cut" "$2"; sleep 0.05; tail -c "+$((cut + 1))" "$2"; } | run | cmp -s - "$3" || echo "at $cut"
     done >"$room/got"
     same "strip: $1: a strip that comes in two pieces" "" "$(cat "$room/got")"
     for ((i = 0; i < $(wc -c <"$2"); i++)); do
         tail -c "+$((i + 1))" "$2" | head -c 1
         sleep 0.002
     done | run >"$room/got"
-    same_file "strip: $1: a strip that comes byte by byte" "$room/paper" "$room/got"
+    same_file "strip: $1: a strip that comes byte by byte" "$3" "$room/got"
 }
-in_pieces "version 1" "$paper"
-in_pieces "version 2" "$twin"
+in_pieces "version 1" "$paper" "$room/paper"
+in_pieces "version 2" "$twin" "$room/paper"
+in_pieces "version 2 with a gap" "$broken" "$room/broken"
 
 # A million records: the first hundred of the example, again and again, over frames of 40 samples. The
 # memory that the program has used is read after 10,000 and at the end, before the strip is closed.

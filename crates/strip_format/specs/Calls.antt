@@ -11,12 +11,12 @@ use Rattle.units.specs.Figures as Figure
 use Rattle.units.specs.declared.figures.Figures.{Figures}
 use Rattle.frames.specs.Shape.{isSamples}
 use Rattle.strip_format.specs.Fields.{size, numberAt, fieldsAt}
-use Rattle.strip_format.specs.Format.{numberOf, largestSaid, hasGaps, headFields, headLength, headOf, noHead, headBytes, recordFields, recordLength, figuresOf, recordBytes, gapLength, Entry, figures, gap}
+use Rattle.strip_format.specs.Format.{numberOf, largestSaid, hasGaps, headFields, headLength, headOf, noHead, headBytes, recordFields, recordLength, figuresOf, recordBytes, gapLength, Entry, figures, gap, entryBytes}
 use Rattle.strip_format.specs.declared.Version.{Version}
 use Rattle.strip_format.specs.declared.Head.{Head}
 use Rattle.strip_format.specs.declared.HeadRead.{HeadRead}
 use Rattle.strip_format.specs.declared.Found.{Found}
-use Rattle.strip_format.specs.declared.Found.the-variants.{None, Record}
+use Rattle.strip_format.specs.declared.Found.the-variants.{None, Record, Gap}
 use Rattle.strip_format.specs.declared.RecordRead.{RecordRead}
 
 -- ---- a head
@@ -79,7 +79,7 @@ judgedRecord f = cond (eqb (recordRefusal f) done) (found (figures f)) (refusedR
 abbrev pub isGap : Version → ℕ → Bool
 isGap v n = hasGaps v && eqb n gapLength
 
--- "Record: no byte, end; one byte 5; length 6; cut 5; then 2."
+-- "Record: no byte, end; one byte 5; length 6; cut 5; then 2."; "length 0 is no longer 6 in version 2; it still is in version 1"
 unfoldable pub readRecord : Version → List ℕ → ℕ → Read
 unfolding refusedRecord ended found judgedRecord numberAt figuresOf fieldsAt
 readRecord v strip at =
@@ -108,11 +108,13 @@ saidOf (gap ∷ es) = record { number = 2; values = [] }
 abbrev pub said : Found → Said
 said None = saidOf []
 said (Record f) = saidOf (figures f ∷ [])
+said Gap = saidOf (gap ∷ [])
 
 -- the same as records
 abbrev pub entriesFound : Found → List Entry
 entriesFound None = []
 entriesFound (Record f) = figures f ∷ []
+entriesFound Gap = gap ∷ []
 
 unfoldable pub readOf : RecordRead → Read
 readOf r = record { reply = r .reply; found = entriesFound (r .found) }
@@ -136,3 +138,11 @@ putHead h out = put (headRefusal h) (headBytes h) out
 unfoldable pub putRecord : Figures → List ℕ → Put
 unfolding put recordRefusal recordBytes
 putRecord f out = put (recordRefusal f) (recordBytes f) out
+
+-- a gap is refused with 6 in a version that has none, as its bytes are when they are read
+abbrev pub gapRefusal : Version → ℕ
+gapRefusal v = cond (hasGaps v) done badLength
+
+unfoldable pub putGap : Version → List ℕ → Put
+unfolding put entryBytes
+putGap v out = put (gapRefusal v) (entryBytes gap) out

@@ -1,5 +1,5 @@
 -- The strip's head, its records and the whole of it: one description of each, from which reading and writing follow. Definitions only.
-use mathlib.Core.Bool.{Bool, false, cond}
+use mathlib.Core.Bool.{Bool, true, false, cond}
 use mathlib.Core.List.{List, [], _∷_, _++_}
 use Prim.Native.Nat.{ℕ, _-_}
 use lib.Dec.{eqb}
@@ -28,10 +28,10 @@ abbrev pub largestSaid : Version → ℕ
 largestSaid One = 200
 largestSaid Two = largestThreshold
 
--- whether a record of length 0 is a gap: in both versions it is refused
+-- "In a version 2 strip a record of length 0 is a gap"; in version 1 it is refused
 abbrev pub hasGaps : Version → Bool
 hasGaps One = false
-hasGaps Two = false
+hasGaps Two = true
 
 -- the version that a strip is read in: 2 where its third byte says 2, and otherwise 1, in which any other number than 1 is refused
 unfoldable pub versionOf : List ℕ → Version

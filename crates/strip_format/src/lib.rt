@@ -1,17 +1,18 @@
-// The strip: a head with the settings, then a record of figures for each frame. Big-endian, floats as
-// their bits. Heads of both versions and records are read from bytes and written into a lent buffer.
+// The strip: a head with the settings, then a record of figures for each frame, and in version 2 a gap where frames were
+// lost. Big-endian, floats as their bits. Heads, records and gaps are read from bytes and written into a lent buffer.
 
 ghost use mathlib.Core.Path.{_≡_};
+ghost use mathlib.Core.Bool.{_&&_};
+ghost use lib.Dec.{leb};
 ghost use mathlib.Core.List.{_++_};
 ghost use Prim.Native.Nat.{_+_, _<_, _≤_};
 ghost use lib.ListN.{length, take, drop};
 ghost use Rattle.bits.specs.Floats.{floatOf, patternOf};
 ghost use Rattle.units.specs.Replies.{done};
 ghost use Rattle.strip_format.specs.Fields.{size, bigEndian, numberAt, fieldsAt};
-ghost use Rattle.strip_format.specs.Format.{numberOf, thresholdBytes, largestSaid, versionOf, floatFields, headFields, headOf, headBytes, recordFields, figuresOf, recordBytes};
-ghost use Rattle.strip_format.specs.declared.Version.the-variants.{One};
+ghost use Rattle.strip_format.specs.Format.{numberOf, thresholdBytes, largestSaid, hasGaps, versionOf, floatFields, headFields, headOf, headBytes, recordFields, figuresOf, recordBytes, gap};
 ghost use Rattle.units.specs.Output.{put};
-ghost use Rattle.strip_format.specs.Calls.{headRefusal, refusedHead, judgedHead, readHead, recordRefusal, refusedRecord, judgedRecord, readRecord, told, toldOf, putHead, putRecord};
+ghost use Rattle.strip_format.specs.Calls.{headRefusal, refusedHead, judgedHead, readHead, recordRefusal, refusedRecord, judgedRecord, readRecord, isGap, found, told, toldOf, putHead, putRecord, putGap};
 ghost use Rattle.strip_format.specs.Steps.{headPlace, recordPlace, fiveBytes};
 use units::figures::Figures;
 use units::kinds::Db;
@@ -57,6 +58,11 @@ pub const RECORD_BYTES: usize = LENGTH_BYTES + FLOATS_BYTES;
 
 const RECORD_LENGTH: u32 = FLOATS_BYTES as u32;
 
+// The bytes of a gap, which is a length field alone, and what it says.
+pub const GAP_BYTES: usize = LENGTH_BYTES;
+
+const GAP_LENGTH: u32 = 0;
+
 // The versions of the strip.
 pub enum Version {
     One,
@@ -78,11 +84,12 @@ pub struct HeadRead {
     pub head: Head,
 }
 
-// What stands at a place of a strip: no record, at the strip's end and where reading is refused; or the
-// figures of one.
+// What stands at a place of a strip: no record, at the strip's end and where reading is refused; the figures of
+// one; or a gap.
 pub enum Found {
     None,
     Record(Figures),
+    Gap,
 }
 
 // A reply's number, and what was found.
@@ -120,6 +127,16 @@ fn largest_threshold(version: Version) -> u32
     match version {
         Version::One => LARGEST_IN_ONE,
         Version::Two => LARGEST_THRESHOLD,
+    }
+}
+
+// Whether a record of length 0 is a gap.
+fn has_gaps(version: Version) -> bool
+    ensures { λ r. ⌜ r ≡ hasGaps version ⌝ }
+{
+    match version {
+        Version::One => false,
+        Version::Two => true,
     }
 }
 
@@ -333,17 +350,45 @@ fn record_place(strip: &[u8], at: usize) -> u32
     }
 }
 
-// The record at a place of a strip, the same in both versions; none, where the strip ends there. Refused, in this
-// order, are a single byte with 5, a wrong length with 6, a record that is cut with 5, and a figure with 2.
-pub fn read_record(strip: &[u8], at: usize) -> RecordRead
-    ensures { λ r. ⌜ told r ≡ toldOf (readRecord One (now (strip .entry)) at) ⌝ }
+// Whether a gap stands at a place of a strip: two bytes that say the length 0, in a version that has gaps.
+fn is_gap_at(version: Version, strip: &[u8], at: usize) -> bool
+    requires { ⌜ at < length (now strip) ⌝ }
+    ensures { λ r. ⌜ r ≡ leb (at + 2) (length (now (strip .entry))) && isGap version (numberAt (now (strip .entry)) at 2) ⌝ }
+{
+    let left = strip.len() - at;
+    if 2 <= left {
+        has_gaps(version) & (two_at(strip, at) == GAP_LENGTH)
+    } else {
+        false
+    }
+}
+
+// A gap that was found.
+fn found_gap() -> RecordRead
+    ensures { λ r. ⌜ told r ≡ toldOf (found gap) ⌝ }
+{
+    RecordRead {
+        reply: DONE,
+        found: Found::Gap,
+    }
+}
+
+// The record at a place of a strip of a version: figures, or in version 2 a gap; none, where the strip ends there.
+// Refused, in this order, are a single byte with 5, a wrong length with 6, a record that is cut with 5, and a figure
+// with 2.
+pub fn read_record(version: Version, strip: &[u8], at: usize) -> RecordRead
+    ensures { λ r. ⌜ told r ≡ toldOf (readRecord version (now (strip .entry)) at) ⌝ }
 {
     if at < strip.len() {
-        let place = record_place(strip, at);
-        if place == DONE {
-            judged_record(figures_at(strip, at))
+        if is_gap_at(version, strip, at) {
+            found_gap()
         } else {
-            refused_record(place)
+            let place = record_place(strip, at);
+            if place == DONE {
+                judged_record(figures_at(strip, at))
+            } else {
+                refused_record(place)
+            }
         }
     } else {
         refused_record(DONE)
@@ -486,5 +531,19 @@ pub fn write_record(figures: Figures, out: &mut [u8]) -> u32
         copy(&bytes, out)
     } else {
         reply
+    }
+}
+
+// Writes a gap to the start of a lent buffer, in a version. Refused, in this order, are a version that has no gaps with
+// 6 and a buffer that is too short with 8; nothing is written then.
+pub fn write_gap(version: Version, out: &mut [u8]) -> u32
+    ensures { λ r. ⌜ r ≡ putGap version (now (out .entry)) .reply ⌝ }
+    ensures { λ _. ⌜ now (out .exit) ≡ putGap version (now (out .entry)) .out ⌝ }
+{
+    if has_gaps(version) {
+        let bytes = [0u8; GAP_BYTES];
+        copy(&bytes, out)
+    } else {
+        LENGTH
     }
 }

@@ -8,7 +8,6 @@ use lib.Ieee.{Float}
 use Rattle.units.specs.Replies.{done, refusal}
 use Rattle.units.specs.Figures as Figures
 use Rattle.units.specs.Output.{Put, put}
-use Rattle.chain.specs.Answer.{Said}
 use Rattle.strip_lines.specs.Lines.{recordLine, refusalLine}
 use Rattle.strip_lines.specs.declared.Line.{Line}
 
@@ -21,10 +20,10 @@ unfoldable pub recordRefusal : Float → Float → Float → ℕ
 unfolding refusal
 recordRefusal level headroom gain = refusal true true (Figures.level level && Figures.headroom headroom && Figures.gain gain) true
 
-unfoldable pub putRecordLine : ℕ → Said → Float → Float → Float → Bool → List ℕ → Put
+unfoldable pub putRecordLine : ℕ → ℕ → Float → Float → Float → Bool → List ℕ → Put
 unfolding put recordRefusal recordLine
-putRecordLine number answer level headroom gain confident out =
-    put (recordRefusal level headroom gain) (recordLine number answer level headroom gain confident) out
+putRecordLine number kind level headroom gain confident out =
+    put (recordRefusal level headroom gain) (recordLine number kind level headroom gain confident) out
 
 unfoldable pub putRefusalLine : ℕ → ℕ → List ℕ → Put
 unfolding put refusalLine

@@ -2,4 +2,5 @@
 pub mod Spelling
 pub mod Cutting
 pub mod Putting
+pub mod Letters
 pub mod Ends

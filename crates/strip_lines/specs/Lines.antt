@@ -5,7 +5,9 @@ use Prim.Native.Nat.{ℕ, zero, suc, _+_, _*_, _/_, _%_}
 use lib.Dec.{eqb, ltb}
 use lib.Ieee.{Float, binary32, ofBits, lt}
 use Rattle.rounding.specs.Units.{U, size}
-use Rattle.chain.specs.Answer.{Said}
+use Rattle.chain.specs.Answer.{said}
+use Rattle.strip_lines.specs.declared.Kind.{Kind}
+use Rattle.strip_lines.specs.declared.Kind.the-variants.{Frame, Gap}
 
 -- ---- the characters, in ASCII
 abbrev pub space : ℕ
@@ -44,9 +46,21 @@ figure x =
     cond (lt x (ofBits binary32 0x0000_0000) && ltb 0 (hundredths x)) (minus ∷ decimal (hundredths x)) (decimal (hundredths x))
 
 -- ---- fields
--- "Kind is N non-speech, W waiting, P publishing", by the number of the answer's case
-unfoldable pub kind : Said → ℕ
-kind answer = cond (eqb (answer .number) 0) 78 (cond (eqb (answer .number) 1) 87 80)
+-- what a line is of, by its number: a frame has the number of its answer's case, and a gap 3
+abbrev pub gapKind : ℕ
+gapKind = 3
+
+abbrev pub numberOf : Kind → ℕ
+numberOf (Frame answer) = said answer .number
+numberOf Gap = gapKind
+
+-- "Kind is N non-speech, W waiting, P publishing"; "the program prints [a gap] with kind G". A number above 3 has no letter.
+unfoldable pub letter : ℕ → List ℕ
+letter kind =
+    cond (eqb kind 0) (78 ∷ [])
+    (cond (eqb kind 1) (87 ∷ [])
+    (cond (eqb kind 2) (80 ∷ [])
+    (cond (eqb kind gapKind) (71 ∷ []) [])))
 
 -- "confident 0 or 1"
 abbrev pub flag : Bool → ℕ
@@ -58,15 +72,15 @@ abbrev pub longest : ℕ
 longest = 96
 
 -- "for each record, single spaces between fields, a newline after each line ..: number from 1, kind, level, headroom, gain in dB .., confident 0 or 1"
-unfoldable pub recordLine : ℕ → Said → Float → Float → Float → Bool → List ℕ
-unfolding decimal kind figure
-recordLine number answer level headroom gain confident =
+unfoldable pub recordLine : ℕ → ℕ → Float → Float → Float → Bool → List ℕ
+unfolding decimal letter figure
+recordLine number kind level headroom gain confident =
     decimal number
     ++ (space
-    ∷ kind answer
-    ∷ space
+    ∷ letter kind
+    ++ (space
     ∷ figure level
-    ++ (space ∷ figure headroom ++ (space ∷ figure gain ++ (space ∷ flag confident ∷ newline ∷ []))))
+    ++ (space ∷ figure headroom ++ (space ∷ figure gain ++ (space ∷ flag confident ∷ newline ∷ [])))))
 
 -- "A refusal prints its record's number (0 for the head), R and the reply's number"
 unfoldable pub refusalLine : ℕ → ℕ → List ℕ

@@ -1,7 +1,7 @@
 // The lines that the program strip prints, as bytes in a lent buffer.
 
 ghost use mathlib.Core.Path.{_≡_};
-ghost use mathlib.Core.List.{_∷_, _++_};
+ghost use mathlib.Core.List.{[], _∷_, _++_};
 ghost use Prim.Native.Nat.{_+_, _-_, _/_, _^_, _<_, _≤_};
 ghost use mathlib.Core.Bool.{true};
 ghost use lib.ListN.{length, drop};
@@ -10,7 +10,7 @@ ghost use Rattle.units.specs.Replies.{done};
 ghost use Rattle.units.specs.Ranges.{closed};
 ghost use Rattle.units.specs.Output.{put};
 ghost use Rattle.chain.specs.Answer.{said};
-ghost use Rattle.strip_lines.specs.Lines.{space, newline, decimal, hundredths, figure, kind, flag, recordLine, refusalLine};
+ghost use Rattle.strip_lines.specs.Lines.{space, newline, decimal, hundredths, figure, numberOf, letter, flag, recordLine, refusalLine};
 ghost use Rattle.strip_lines.specs.Calls.{lineOf, recordRefusal, putRecordLine, putRefusalLine};
 use chain::Answer;
 use units::kinds::Db;
@@ -22,6 +22,12 @@ use units::replies::refusal;
 // No line is longer. A line is made from its end to its front in so many bytes: four numbers of at most 20 digits,
 // three signs and eight single characters fit.
 pub const LONGEST: usize = 96;
+
+// What a line is of: a frame, with what it was; or a gap.
+pub enum Kind {
+    Frame(Answer),
+    Gap,
+}
 
 // A reply's number, and how many bytes the line has: 0 where it is refused.
 pub struct Line {
@@ -154,13 +160,23 @@ fn put_figures(text: &mut [u8], at: usize, level: f32, headroom: f32, gain: f32)
 }
 
 // The letter of what a frame was.
-fn letter(answer: Answer) -> u8
-    ensures { λ r. ⌜ r ≡ kind (said answer) ⌝ }
+fn frame_letter(answer: Answer) -> u8
+    ensures { λ r. ⌜ r ∷ [] ≡ letter (said answer .number) ⌝ }
 {
     match answer {
         Answer::NonSpeech => b'N',
         Answer::Waiting(_) => b'W',
         Answer::Publishing(_, _) => b'P',
+    }
+}
+
+// The letter of what a line is of.
+fn letter(kind: Kind) -> u8
+    ensures { λ r. ⌜ r ∷ [] ≡ letter (numberOf kind) ⌝ }
+{
+    match kind {
+        Kind::Frame(answer) => frame_letter(answer),
+        Kind::Gap => b'G',
     }
 }
 
@@ -175,7 +191,7 @@ fn digit(b: bool) -> u8
 fn put_record(
     text: &mut [u8],
     number: u64,
-    answer: Answer,
+    kind: Kind,
     level: f32,
     headroom: f32,
     gain: f32,
@@ -185,15 +201,15 @@ fn put_record(
     requires { ⌜ closed (ofBits binary32 0xc316_0000) level (ofBits binary32 0x4316_0000) ≡ true ⌝ }
     requires { ⌜ closed (ofBits binary32 0xc316_0000) headroom (ofBits binary32 0x4316_0000) ≡ true ⌝ }
     requires { ⌜ closed (ofBits binary32 0xc316_0000) gain (ofBits binary32 0x4316_0000) ≡ true ⌝ }
-    ensures { λ r. ⌜ drop r (now (text .exit)) ≡ recordLine number (said answer) level headroom gain confident ⌝ }
+    ensures { λ r. ⌜ drop r (now (text .exit)) ≡ recordLine number (numberOf kind) level headroom gain confident ⌝ }
     ensures { λ r. ⌜ r ≤ 96 ⌝ }
     ensures { λ _. ⌜ length (now (text .exit)) ≡ 96 ⌝ }
 {
     let end = put_byte(text, LONGEST, b'\n');
     let sure = put_mark(text, end, digit(confident));
     let figures = put_figures(text, sure, level, headroom, gain);
-    let kind = put_mark(text, figures, letter(answer));
-    put_number(text, kind, number)
+    let mark = put_mark(text, figures, letter(kind));
+    put_number(text, mark, number)
 }
 
 // Puts a refusal's line at the end of a text, and answers its place.
@@ -234,20 +250,20 @@ fn put_line(line: &[u8], out: &mut [u8]) -> Line
     }
 }
 
-// Writes the line of a record to the start of a lent buffer: its number, what the frame was, the level, the
+// Writes the line of a record to the start of a lent buffer: its number, what it is of, the level, the
 // headroom and the gain that stand after it, and whether the level is confident. Refused, in this order, are
 // a figure out of its range with 2 and a buffer that is too short with 8; nothing is written then.
 pub fn record_line(
     number: u64,
-    answer: Answer,
+    kind: Kind,
     level: Dbfs,
     headroom: Db,
     gain: Db,
     confident: bool,
     out: &mut [u8],
 ) -> Line
-    ensures { λ r. ⌜ r ≡ lineOf (putRecordLine number (said answer) (level .0) (headroom .0) (gain .0) confident (now (out .entry))) (recordLine number (said answer) (level .0) (headroom .0) (gain .0) confident) ⌝ }
-    ensures { λ _. ⌜ now (out .exit) ≡ putRecordLine number (said answer) (level .0) (headroom .0) (gain .0) confident (now (out .entry)) .out ⌝ }
+    ensures { λ r. ⌜ r ≡ lineOf (putRecordLine number (numberOf kind) (level .0) (headroom .0) (gain .0) confident (now (out .entry))) (recordLine number (numberOf kind) (level .0) (headroom .0) (gain .0) confident) ⌝ }
+    ensures { λ _. ⌜ now (out .exit) ≡ putRecordLine number (numberOf kind) (level .0) (headroom .0) (gain .0) confident (now (out .entry)) .out ⌝ }
 {
     let reply = record_refusal(level.0, headroom.0, gain.0);
     if reply == DONE {
@@ -255,7 +271,7 @@ pub fn record_line(
         let first = put_record(
             &mut text,
             number,
-            answer,
+            kind,
             level.0,
             headroom.0,
             gain.0,

@@ -6,7 +6,7 @@ use lib.Dec.{eqb, leb, ltb}
 use lib.ListN.{take, set, replicate}
 use Rattle.units.specs.Replies.{done, cut, badSetting}
 use Rattle.strip_format.specs.Fields.{size}
-use Rattle.strip_format.specs.Format.{versionOf, headFields, Entry, figures}
+use Rattle.strip_format.specs.Format.{versionOf, headFields, Entry, figures, gap}
 use Rattle.strip_format.specs.Calls.{Read, readHead, readRecord}
 use Rattle.strip_format.specs.declared.Version.{Version}
 use Rattle.strip_format.specs.declared.Version.the-variants.{One, Two}
@@ -31,6 +31,7 @@ unfoldable pub handed : Got → Handed
 handed Cases.More = more
 handed (Cases.Head h) = head h
 handed (Cases.Record f) = entry (figures f)
+handed Cases.Gap = entry gap
 handed Cases.End = end
 handed (Cases.Refused reply) = refused reply
 

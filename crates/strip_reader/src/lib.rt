@@ -34,12 +34,13 @@ pub struct Reader {
     pub version: Version,
 }
 
-// What comes out: nothing yet; the head; the figures of a record; the end, after the last whole record; or the reply
-// with which the head or the next record is refused.
+// What comes out: nothing yet; the head; the figures of a record; a gap; the end, after the last whole record; or the
+// reply with which the head or the next record is refused.
 pub enum Got {
     More,
     Head(Head),
     Record(Figures),
+    Gap,
     End,
     Refused(u32),
 }
@@ -65,6 +66,7 @@ pub fn is_more(got: Got) -> bool
         Got::More => true,
         Got::Head(_) => false,
         Got::Record(_) => false,
+        Got::Gap => false,
         Got::End => false,
         Got::Refused(_) => false,
     }
@@ -146,6 +148,15 @@ fn with_record(version: Version, held: [u8; HEAD_BYTES], count: usize, read: Rec
                 },
                 got: Got::Record(figures),
             },
+            Found::Gap => Step {
+                reader: Reader {
+                    held,
+                    count: 0,
+                    stage: RECORDS,
+                    version,
+                },
+                got: Got::Gap,
+            },
         }
     }
 }
@@ -192,7 +203,7 @@ impl Reader {
                     let read = read_head(&held[..n]);
                     with_head(held, n, read)
                 } else {
-                    let read = read_record(&held[..n], 0);
+                    let read = read_record(version, &held[..n], 0);
                     with_record(version, held, n, read)
                 }
             }

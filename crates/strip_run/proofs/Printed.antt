@@ -11,7 +11,10 @@ use lib.ListN.{length, drop}
 use Rattle.units.specs.Replies.{done}
 use Rattle.units.specs.Output.{put}
 use Rattle.units.specs.declared.figures.Figures.{Figures}
+use Rattle.chain.specs.Calls as Chaining
 use Rattle.chain.specs.Calls.{Told, made, called, publishedTold, samplesTold}
+use Rattle.chain.specs.declared.Chain.{Chain}
+use Rattle.chain.specs.declared.Gapped.{Gapped}
 use Rattle.chain.specs.declared.Made.{Made}
 use Rattle.chain.specs.declared.Published.{Published}
 use Rattle.chain.specs.declared.Reading.{Reading}
@@ -19,11 +22,11 @@ use Rattle.chain.specs.declared.SamplesRead.{SamplesRead}
 use Rattle.strip_format.specs.Laws.Refusals.{put-fits}
 use Rattle.strip_format.specs.Laws.Steps.{put-refused, put-done}
 use Rattle.strip_format.specs.declared.Head.{Head}
-use Rattle.strip_lines.specs.Lines.{longest, recordLine, refusalLine}
+use Rattle.strip_lines.specs.Lines.{longest, gapKind, recordLine, refusalLine}
 use Rattle.strip_lines.specs.Calls as Putting
 use Rattle.strip_lines.specs.Laws.Ends.{record-line-fits, refusal-line-fits}
 use Rattle.strip_lines.specs.declared.Line as Put
-use Rattle.strip_run.specs.Lines.{Shown, after, unchanged, refusedAt, begunWith, begun, silence, lined, publishedWith, published, answered, framedWith, framed}
+use Rattle.strip_run.specs.Lines.{Shown, after, unchanged, refusedAt, begunWith, begun, silence, lined, publishedWith, published, answered, framedWith, framed, gappedWith, gapped}
 use Rattle.strip_run.specs.Run.{lineOf, lineOut}
 use Rattle.strip_run.specs.declared.Desk.{Desk}
 use Rattle.strip_run.specs.declared.Line.{Line}
@@ -92,42 +95,42 @@ module _ (d : Desk) (h : Head) (m : Made) (e : m ≡ made (h .settings) (h .thre
   begun-refused n = refused-with d m n ∙ begun-is
 
 -- ---- a record
-module _ (d : Desk) (t : Told) (r : Reading) (e : r ≡ publishedTold (t .chain)) where
-  published-is : publishedWith d t r ≡ published d t
+module _ (d : Desk) (c : Chain) (kind : ℕ) (r : Reading) (e : r ≡ publishedTold c) where
+  published-is : publishedWith d c kind r ≡ published d c kind
   unfolding published
-  published-is = ap (publishedWith d t) e
+  published-is = ap (publishedWith d c kind) e
 
-  pub published-taken : r .reply ≡ done → lined d t (r .published) ≡ published d t
+  pub published-taken : r .reply ≡ done → lined d c kind (r .published) ≡ published d c kind
   unfolding publishedWith
   published-taken k = sym (rw k refl) ∙ published-is
 
-  pub published-refused : (r .reply ≡ done → ⊥) → refusedAt d (r .reply) ≡ published d t
+  pub published-refused : (r .reply ≡ done → ⊥) → refusedAt d (r .reply) ≡ published d c kind
   unfolding publishedWith
   published-refused n = sym (rw (ne-eqb (r .reply) done n) refl) ∙ published-is
 
-module _ (d : Desk) (t : Told) (p : Published) where
+module _ (d : Desk) (c : Chain) (kind : ℕ) (p : Published) where
   abbrev refused : ℕ
   refused = Putting.recordRefusal (p .level .0) (p .headroom .0) (p .gain .0)
 
   abbrev bytes : List ℕ
-  bytes = recordLine (d .number) (t .answer) (p .level .0) (p .headroom .0) (p .gain .0) (p .confident)
+  bytes = recordLine (d .number) kind (p .level .0) (p .headroom .0) (p .gain .0) (p .confident)
 
   pub lined-done : (n : ℕ) (out end : List ℕ) (line : Put.Line)
-      → line ≡ Putting.lineOf (Putting.putRecordLine (d .number) (t .answer) (p .level .0) (p .headroom .0) (p .gain .0) (p .confident) out) (recordLine (d .number) (t .answer) (p .level .0) (p .headroom .0) (p .gain .0) (p .confident))
-      → end ≡ Putting.putRecordLine (d .number) (t .answer) (p .level .0) (p .headroom .0) (p .gain .0) (p .confident) out .out → line .reply ≡ done → n ≡ after (d .number)
-      → Prints (lined d t p) out (record { desk = record { chain = t .chain; number = n; more = true; reply = d .reply }; length = line .length }) end
+      → line ≡ Putting.lineOf (Putting.putRecordLine (d .number) kind (p .level .0) (p .headroom .0) (p .gain .0) (p .confident) out) (recordLine (d .number) kind (p .level .0) (p .headroom .0) (p .gain .0) (p .confident))
+      → end ≡ Putting.putRecordLine (d .number) kind (p .level .0) (p .headroom .0) (p .gain .0) (p .confident) out .out → line .reply ≡ done → n ≡ after (d .number)
+      → Prints (lined d c kind p) out (record { desk = record { chain = c; number = n; more = true; reply = d .reply }; length = line .length }) end
   unfolding lined Putting.putRecordLine
   lined-done n out end line e f k w =
       let q = line-put refused bytes out end line e f k in
       rw (q .0) (rw (w, q .1), q .2)
 
   pub lined-left : (out end : List ℕ) (line : Put.Line) → longest ≤ length out
-      → line ≡ Putting.lineOf (Putting.putRecordLine (d .number) (t .answer) (p .level .0) (p .headroom .0) (p .gain .0) (p .confident) out) (recordLine (d .number) (t .answer) (p .level .0) (p .headroom .0) (p .gain .0) (p .confident))
-      → end ≡ Putting.putRecordLine (d .number) (t .answer) (p .level .0) (p .headroom .0) (p .gain .0) (p .confident) out .out → (line .reply ≡ done → ⊥)
-      → (end ≡ out) × (refusedAt d (line .reply) ≡ lined d t p)
+      → line ≡ Putting.lineOf (Putting.putRecordLine (d .number) kind (p .level .0) (p .headroom .0) (p .gain .0) (p .confident) out) (recordLine (d .number) kind (p .level .0) (p .headroom .0) (p .gain .0) (p .confident))
+      → end ≡ Putting.putRecordLine (d .number) kind (p .level .0) (p .headroom .0) (p .gain .0) (p .confident) out .out → (line .reply ≡ done → ⊥)
+      → (end ≡ out) × (refusedAt d (line .reply) ≡ lined d c kind p)
   unfolding lined Putting.putRecordLine
   lined-left out end line room e f n =
-      let q = line-left refused bytes out end line (omega (arith, record-line-fits (d .number) (t .answer) (p .level .0) (p .headroom .0) (p .gain .0) (p .confident))) e f n in
+      let q = line-left refused bytes out end line (omega (arith, record-line-fits (d .number) kind (p .level .0) (p .headroom .0) (p .gain .0) (p .confident))) e f n in
       (q .1, ap (refusedAt d) (q .0) ∙ sym (rw (ne-eqb refused done (q .2)) refl))
 
 module _ (d : Desk) (f : Figures) (r : SamplesRead) (e : r ≡ samplesTold (d .chain)) where
@@ -144,10 +147,24 @@ module _ (d : Desk) (f : Figures) (r : SamplesRead) (e : r ≡ samplesTold (d .c
     unfolding framedWith
     framed-answered = ap (answered d) g ∙ sym (rw k refl) ∙ framed-is
 
-    pub framed-done : t .reply ≡ done → published d t ≡ framed d f
+    pub framed-done : t .reply ≡ done → published d (t .chain) (t .answer .number) ≡ framed d f
     unfolding answered
     framed-done h = sym (rw h refl) ∙ framed-answered
 
     pub framed-refused : (t .reply ≡ done → ⊥) → refusedAt d (t .reply) ≡ framed d f
     unfolding answered
     framed-refused n = sym (rw (ne-eqb (t .reply) done n) refl) ∙ framed-answered
+
+-- ---- a gap
+module _ (d : Desk) (g : Gapped) (e : g ≡ Chaining.gap (d .chain)) where
+  gapped-is : gappedWith d g ≡ gapped d
+  unfolding gapped
+  gapped-is = ap (gappedWith d) e
+
+  pub gapped-done : g .reply ≡ done → published d (g .chain) gapKind ≡ gapped d
+  unfolding gappedWith
+  gapped-done h = sym (rw h refl) ∙ gapped-is
+
+  pub gapped-refused : (g .reply ≡ done → ⊥) → refusedAt d (g .reply) ≡ gapped d
+  unfolding gappedWith
+  gapped-refused n = sym (rw (ne-eqb (g .reply) done n) refl) ∙ gapped-is

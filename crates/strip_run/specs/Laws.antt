@@ -3,3 +3,4 @@ pub mod Room
 pub mod Cutting
 pub mod Reply
 pub mod Versions
+pub mod Gaps

@@ -5,10 +5,13 @@ use Prim.Native.Nat.{ℕ, _+_, _%_, _^_}
 use lib.Dec.{eqb}
 use lib.ListN.{take, replicate}
 use lib.Ieee.{Float, binary32, ofBits}
-use Rattle.units.specs.Replies.{done, badLength}
+use Rattle.units.specs.Replies.{done}
 use Rattle.units.specs.Settings.{unset}
 use Rattle.units.specs.declared.figures.Figures.{Figures}
+use Rattle.chain.specs.Calls as Chaining
 use Rattle.chain.specs.Calls.{Told, called, made, publishedTold, samplesTold}
+use Rattle.chain.specs.declared.Chain.{Chain}
+use Rattle.chain.specs.declared.Gapped.{Gapped}
 use Rattle.chain.specs.declared.Made.{Made}
 use Rattle.chain.specs.declared.Published.{Published}
 use Rattle.chain.specs.declared.Reading.{Reading}
@@ -16,7 +19,7 @@ use Rattle.chain.specs.declared.SamplesRead.{SamplesRead}
 use Rattle.strip_format.specs.Format.{versionOf, Entry, figures, gap}
 use Rattle.strip_format.specs.Whole.{readStrip}
 use Rattle.strip_format.specs.declared.Head.{Head}
-use Rattle.strip_lines.specs.Lines.{recordLine, refusalLine}
+use Rattle.strip_lines.specs.Lines.{gapKind, recordLine, refusalLine}
 use Rattle.strip_lines.specs.Calls.{recordRefusal}
 use Rattle.strip_reader.specs.Reader.{Handed, more, head, entry, end, refused}
 use Rattle.strip_reader.specs.Feeding.{handedBy}
@@ -61,30 +64,30 @@ begun d h = begunWith d (made (h .settings) (h .threshold) (h .samples))
 unfoldable pub silence : ℕ → List Float
 silence n = take n (replicate 480 (ofBits binary32 0x0000_0000))
 
--- "prints for each record ..: number from 1, kind, level, headroom, gain in dB .., confident": what stands after the frame
-unfoldable pub lined : Desk → Told → Published → Shown
+-- "prints for each record ..: number from 1, kind, level, headroom, gain in dB .., confident": what stands after it, of a chain that goes on and a kind
+unfoldable pub lined : Desk → Chain → ℕ → Published → Shown
 unfolding recordRefusal recordLine refusedAt
-lined d told p =
+lined d c kind p =
     let refused = recordRefusal (p .level .0) (p .headroom .0) (p .gain .0) in
     cond (eqb refused done)
     (record {
-      desk = record { chain = told .chain; number = after (d .number); more = true; reply = d .reply };
-      line = recordLine (d .number) (told .answer) (p .level .0) (p .headroom .0) (p .gain .0) (p .confident);
+      desk = record { chain = c; number = after (d .number); more = true; reply = d .reply };
+      line = recordLine (d .number) kind (p .level .0) (p .headroom .0) (p .gain .0) (p .confident);
     })
     (refusedAt d refused)
 
-unfoldable pub publishedWith : Desk → Told → Reading → Shown
+unfoldable pub publishedWith : Desk → Chain → ℕ → Reading → Shown
 unfolding lined refusedAt
-publishedWith d told read = cond (eqb (read .reply) done) (lined d told (read .published)) (refusedAt d (read .reply))
+publishedWith d c kind read = cond (eqb (read .reply) done) (lined d c kind (read .published)) (refusedAt d (read .reply))
 
-unfoldable pub published : Desk → Told → Shown
+unfoldable pub published : Desk → Chain → ℕ → Shown
 unfolding publishedWith publishedTold
-published d told = publishedWith d told (publishedTold (told .chain))
+published d c kind = publishedWith d c kind (publishedTold c)
 
 -- the line by what the step told
 unfoldable pub answered : Desk → Told → Shown
 unfolding published refusedAt
-answered d told = cond (eqb (told .reply) done) (published d told) (refusedAt d (told .reply))
+answered d told = cond (eqb (told .reply) done) (published d (told .chain) (told .answer .number)) (refusedAt d (told .reply))
 
 unfoldable pub framedWith : Desk → Figures → SamplesRead → Shown
 unfolding called silence answered refusedAt
@@ -94,14 +97,22 @@ unfoldable pub framed : Desk → Figures → Shown
 unfolding framedWith samplesTold
 framed d f = framedWith d f (samplesTold (d .chain))
 
+-- ---- a gap: "the program prints it with kind G and the figures as they stand"
+unfoldable pub gappedWith : Desk → Gapped → Shown
+unfolding published refusedAt
+gappedWith d g = cond (eqb (g .reply) done) (published d (g .chain) gapKind) (refusedAt d (g .reply))
+
+unfoldable pub gapped : Desk → Shown
+unfolding gappedWith Chaining.gap
+gapped d = gappedWith d (Chaining.gap (d .chain))
+
 -- ---- what a strip hands out, one after the other; once the run has ended nothing is printed
 unfoldable pub shown : Desk → Handed → Shown
-unfolding begun framed refusedAt
+unfolding begun framed gapped refusedAt
 shown d more = unchanged d
 shown d (head h) = begun d h
 shown d (entry (figures f)) = framed d f
--- no version that is read has gaps: a record of length 0 is refused with 6
-shown d (entry gap) = refusedAt d badLength
+shown d (entry gap) = gapped d
 shown d end = unchanged (record { chain = d .chain; number = d .number; more = false; reply = d .reply })
 shown d (refused reply) = refusedAt d reply
 

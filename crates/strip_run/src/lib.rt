@@ -5,15 +5,16 @@ ghost use Prim.Native.Nat.{_/_, _<_, _≤_};
 ghost use lib.ListN.{length, take, drop};
 ghost use mathlib.Core.List.{_++_};
 ghost use Rattle.chain.specs.Calls.{told, called};
-ghost use Rattle.strip_lines.specs.Lines.{longest};
+ghost use Rattle.strip_lines.specs.Lines.{longest, numberOf};
 ghost use Rattle.strip_reader.specs.Reader.{handed};
-ghost use Rattle.strip_run.specs.Lines.{atStart, refusedAt, begun, silence, published, answered, framed, shown};
+ghost use Rattle.strip_run.specs.Lines.{atStart, refusedAt, begun, silence, published, answered, framed, gapped, shown};
 ghost use Rattle.strip_run.specs.Lines as Printed;
 ghost use Rattle.strip_run.specs.Run.{new, ran, ended, takenOf, outOf, lineOf, lineOut, verdictOf};
 use chain::Chain;
 use chain::Next;
 use std::num::wrapping_add_u64;
 use strip_format::Head;
+use strip_lines::Kind;
 use strip_lines::LONGEST;
 use strip_lines::record_line;
 use strip_lines::refusal_line;
@@ -106,20 +107,18 @@ fn step_silently(chain: Chain, figures: Figures, samples: usize) -> Next
     chain.step(figures, &mut frame[..n], 1, samples)
 }
 
-// Puts the line of what the chain publishes after an accepted step.
-fn publish(desk: Desk, next: Next, out: &mut [u8]) -> Line
+// Puts the line of what the chain publishes after an accepted frame or gap.
+fn publish(desk: Desk, chain: Chain, kind: Kind, out: &mut [u8]) -> Line
     requires { ⌜ longest ≤ length (now out) ⌝ }
-    ensures { λ r. ⌜ r ≡ lineOf (published desk (told next)) ⌝ }
-    ensures { λ _. ⌜ now (out .exit) ≡ lineOut (published desk (told next)) (now (out .entry)) ⌝ }
+    ensures { λ r. ⌜ r ≡ lineOf (published desk chain (numberOf kind)) ⌝ }
+    ensures { λ _. ⌜ now (out .exit) ≡ lineOut (published desk chain (numberOf kind)) (now (out .entry)) ⌝ }
 {
-    let chain = next.chain;
-    let answer = next.answer;
     let read = chain.published();
     if read.reply == DONE {
         let shown = read.published;
         let line = record_line(
             desk.number,
-            answer,
+            kind,
             shown.level,
             shown.headroom,
             shown.gain,
@@ -155,12 +154,30 @@ fn take_figures(desk: Desk, figures: Figures, out: &mut [u8]) -> Line
     if read.reply == DONE {
         let next = step_silently(chain, figures, read.samples);
         if next.reply == DONE {
-            publish(desk, next, out)
+            let after = next.chain;
+            let answer = next.answer;
+            publish(desk, after, Kind::Frame(answer), out)
         } else {
             refuse(desk, next.reply, out)
         }
     } else {
         refuse(desk, read.reply, out)
+    }
+}
+
+// Marks a gap, and puts its line.
+fn take_gap(desk: Desk, out: &mut [u8]) -> Line
+    requires { ⌜ longest ≤ length (now out) ⌝ }
+    ensures { λ r. ⌜ r ≡ lineOf (gapped desk) ⌝ }
+    ensures { λ _. ⌜ now (out .exit) ≡ lineOut (gapped desk) (now (out .entry)) ⌝ }
+{
+    let chain = desk.chain;
+    let next = chain.gap();
+    if next.reply == DONE {
+        let after = next.chain;
+        publish(desk, after, Kind::Gap, out)
+    } else {
+        refuse(desk, next.reply, out)
     }
 }
 
@@ -198,6 +215,7 @@ fn show(desk: Desk, got: Got, out: &mut [u8]) -> Line
         Got::More => Line { desk, length: 0 },
         Got::Head(head) => begin(desk, head, out),
         Got::Record(figures) => take_figures(desk, figures, out),
+        Got::Gap => take_gap(desk, out),
         Got::End => {
             let chain = desk.chain;
             Line {

@@ -10,7 +10,7 @@ use Rattle.strip_format.specs.Calls.{Read, refusedRecord, ended, found, 
 use Rattle.strip_format.specs.Laws.Whole.{Seen, here, over, refused, seen}
 use Rattle.strip_format.specs.declared.Version.{Version}
 use Rattle.strip_format.specs.declared.Found.{Found}
-use Rattle.strip_format.specs.declared.Found.the-variants.{None, Record}
+use Rattle.strip_format.specs.declared.Found.the-variants.{None, Record, Gap}
 use Rattle.strip_format.specs.declared.RecordRead.{RecordRead}
 
 number : {x y : Said} → x ≡ y → x .number ≡ y .number
@@ -19,6 +19,7 @@ number e = ap (λ (s : Said). s .number) e
 nothing-said : (x : Found) → said x ≡ saidOf [] → entriesFound x ≡ []
 nothing-said None e = refl
 nothing-said (Record f) e = absurd (omega (arith, number e))
+nothing-said Gap e = absurd (omega (arith, number e))
 
 entry-said : (x : Found) (d : Entry) → said x ≡ saidOf (d ∷ []) → entriesFound x ≡ d ∷ []
 entry-said None (figures f) e = absurd (omega (arith, number e))
@@ -28,6 +29,8 @@ entry-said (Record g) (figures f) e = ap (λ (h : Figures). figures h ∷ []) (s
     same : g ∷ [] ≡ f ∷ [] → g ≡ f
     same h = cc h
 entry-said (Record g) gap e = absurd (omega (arith, number e))
+entry-said Gap (figures f) e = absurd (omega (arith, number e))
+entry-said Gap gap e = refl
 
 -- an answer is a record's by its reply and what was found
 both : (r : RecordRead) (x : Read) → r .reply ≡ x .reply → entriesFound (r .found) ≡ x .found → readOf r ≡ x

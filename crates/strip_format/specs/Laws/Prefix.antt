@@ -20,7 +20,7 @@ use Rattle.strip_format.specs.Calls.{Read, isThreshold, headRefusal, rec
 use Rattle.strip_format.specs.Laws.Steps.{HeadThere, RecordThere}
 use Rattle.strip_format.specs.Laws.Heads.{head-stood}
 use Rattle.strip_format.specs.Laws.Records.{stood}
-use Rattle.strip_format.specs.Laws.Gaps.{gap-whole, gap-says}
+use Rattle.strip_format.specs.Laws.Gaps.{gap-says, gap-stood}
 use Rattle.strip_format.specs.Laws.Refusals.{head-too-short, head-wrong-length, head-other-version, head-judged, record-none, record-gap, record-wrong-length, record-judged, judged-head-reply, judged-record-reply}
 use Rattle.strip_format.specs.declared.Version.{Version}
 use Rattle.strip_format.specs.declared.Head.{Head}
@@ -95,7 +95,7 @@ module _ (v : Version) (xs ys : List ℕ) where
 -- A record that is found is there whole.
 pub entry-fits : (v : Version) (strip : List ℕ) (e : Entry) → readRecord v strip 0 ≡ found e → entrySize e ≤ length strip
 entry-fits v strip (figures f) h = omega (arith, stood v strip 0 f h .whole)
-entry-fits v strip gap h = omega (arith, gap-whole v strip 0 h)
+entry-fits v strip gap h = omega (arith, gap-stood v strip 0 h .whole)
 
 -- Of no byte there is no record.
 pub none-of-nothing : (v : Version) → readRecord v [] 0 ≡ ended

@@ -23,7 +23,6 @@ use Rattle.strip_format.specs.Laws.Steps.{RecordThere, record-by-place, 
 use Rattle.strip_format.specs.Laws.Fields.{Fits, Bytes, written-length, numbers-back, bytes-back}
 use Rattle.strip_format.specs.Laws.NoNan.{PlainFigures, plain-figures, same-bits}
 use Rattle.strip_format.specs.declared.Version.{Version}
-use Rattle.strip_format.specs.declared.Version.the-variants.{One, Two}
 
 -- the figures are floats of 32 bits, as all that the code holds are
 pub record Held (f : Figures) : Type 0 where
@@ -248,12 +247,3 @@ records-found-exactly v strip at b = (only, every)
         ap (λ (l : List ℕ). readRecord v l at) (s .is)
         ∙ ap (readRecord v (s .before ++ recordBytes (s .said) ++ s .rest)) (sym (s .place))
         ∙ written-record-reads v (s .said) (s .before) (s .rest) (s .held) (s .accepted)
-
--- ---- "records stay"
--- A record is read alike in both versions.
-pub records-stay : (v w : Version) (strip : List ℕ) (at : ℕ) → readRecord v strip at ≡ readRecord w strip at
-unfolding readRecord
-records-stay One One strip at = refl
-records-stay One Two strip at = refl
-records-stay Two One strip at = refl
-records-stay Two Two strip at = refl

@@ -94,13 +94,17 @@ record-by-place v strip at g =
     (nested refusedRecord (judgedRecord (figuresOf (fieldsAt recordFields strip at))) (leb (at + 2) (length strip)) true
     (eqb (numberAt strip at 2) recordLength) (leb (at + size recordFields) (length strip))))
 
--- The length of figures is no gap's.
-pub no-gap : (v : Version) (n : ℕ) → n ≡ recordLength → isGap v n ≡ false
-no-gap v n e = rw e (never (hasGaps v))
+-- In no version does another length than a gap's say one,
+pub other-length : (v : Version) (n : ℕ) → eqb n gapLength ≡ false → isGap v n ≡ false
+other-length v n e = rw e (never (hasGaps v))
   where
     never : (b : Bool) → b && false ≡ false
     never true = refl
     never false = refl
+
+-- and that of figures is another.
+pub no-gap : (v : Version) (n : ℕ) → n ≡ recordLength → isGap v n ≡ false
+no-gap v n e = other-length v n (rw e)
 
 -- A record's place is right: its length, and the record is there whole.
 pub record RecordThere (strip : List ℕ) (at : ℕ) : Type 0 where

@@ -19,8 +19,7 @@ use Rattle.strip_format.specs.Whole.{Entries, joined, behind, entriesIn,
 use Rattle.strip_format.specs.Laws.Fields.{Bytes, written-length}
 use Rattle.strip_format.specs.Laws.Heads as Heads
 use Rattle.strip_format.specs.Laws.Records as Records
-use Rattle.strip_format.specs.Laws.Refusals.{record-gap}
-use Rattle.strip_format.specs.Laws.Gaps.{gap-had, gap-rewrites}
+use Rattle.strip_format.specs.Laws.Gaps.{gap-had, gap-rewrites, gap-length, written-gap-reads}
 use Rattle.strip_format.specs.Laws.Prefix.{entry-fits}
 use Rattle.strip_format.specs.declared.Version.{Version}
 use Rattle.strip_format.specs.declared.Head.{Head}
@@ -36,13 +35,13 @@ Accepted v gap = hasGaps v ≡ true
 pub entry-length : (v : Version) (e : Entry) → Accepted v e → length (entryBytes e) ≡ entrySize e
 unfolding Accepted entryBytes
 entry-length v (figures f) a = Records.record-length f (a .0)
-entry-length v gap a = refl
+entry-length v gap a = gap-length
 
 -- What is written reads back equal, whatever follows.
 pub written-entry-reads : (v : Version) (e : Entry) (rest : List ℕ) → Accepted v e → readRecord v (entryBytes e ++ rest) 0 ≡ found e
-unfolding Accepted entryBytes numberAt
+unfolding Accepted entryBytes
 written-entry-reads v (figures f) rest a = Records.written-record-reads v f [] rest (a .0) (a .1)
-written-entry-reads v gap rest a = record-gap v (0 ∷ 0 ∷ rest) 0 (omega arith) (rw a)
+written-entry-reads v gap rest a = written-gap-reads v [] rest a
 
 -- no record is longer than the bytes of all
 as-many : (v : Version) (es : List Entry) → Each (Accepted v) es → length es ≤ length (entriesBytes es)

@@ -1,32 +1,27 @@
--- `strip_lines::letter` meets its contract, case by case. Assumes nothing.
-use mathlib.Core.Path.{sym, ap}
-use Rattle.chain.specs.Answer.{said}
-use Rattle.chain.specs.declared.Answer.{Answer}
-use Rattle.strip_lines.specs.Lines.{kind}
+-- `strip_lines::letter` meets its contract: a frame's letter is what it was, and a gap's is G. Assumes nothing.
+use mathlib.Core.Path.{sym, ap, _∙_}
+use Rattle.strip_lines.specs.Lines.{numberOf, letter}
+use Rattle.strip_lines.specs.declared.Kind.{Kind}
 use borrow.Author.Needs.{needs}
 use Rattle.strip_lines.proofs.letter.Statement.{statement}
 use Rattle.strip_lines.proofs.letter.Tie as tie
 
+enum-known-kind : tie.Need-enum-known-kind
+enum-known-kind c = search needs
+
+frame-letter-requires : tie.Need-frame-letter-requires
+frame-letter-requires c κs = search needs
+
 enum-told : tie.Need-enum-told
 enum-told c = search needs
 
-enum-told-2 : tie.Need-enum-told-2
-enum-told-2 c = search needs
-
-enum-told-3 : tie.Need-enum-told-3
-enum-told-3 c = search needs
-
 returns : tie.Need-returns
-unfolding kind said
-returns c = ap (λ (a : Answer). kind (said a)) (sym (c .enum-told .given .1))
+returns c = c .frame-letter .ensures ∙ ap (λ (k : Kind). letter (numberOf k)) (sym (c .before .before .kind .given .1))
 
 returns-2 : tie.Need-returns-2
-unfolding kind said
-returns-2 c = ap (λ (a : Answer). kind (said a)) (sym (c .enum-told2 .given .1))
-
-returns-3 : tie.Need-returns-3
-unfolding kind said
-returns-3 c = ap (λ (a : Answer). kind (said a)) (sym (c .enum-told3 .given .1))
+unfolding letter
+returns-2 c = ap (λ (k : Kind). letter (numberOf k)) (sym (c .enum-told .given .1))
 
 pub letter-spec : {M : Type 1} → statement M
-letter-spec = tie.close (tie.spec enum-told enum-told-2 enum-told-3 returns returns-2 returns-3)
+letter-spec =
+    tie.close (tie.spec enum-known-kind frame-letter-requires enum-told returns returns-2)

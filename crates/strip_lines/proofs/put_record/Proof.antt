@@ -67,7 +67,7 @@ returns c =
       number .0
           ∙ ap (λ (l : List ℕ). decimal (a .number) ++ l)
           (kind .1 .0
-          ∙ ap₂ (λ (k : ℕ) (l : List ℕ). space ∷ k ∷ l) letter
+          ∙ ap₂ (λ (k l : List ℕ). space ∷ k ++ l) letter
           (figures .0
           ∙ ap (λ (l : List ℕ). space ∷ figure (a .level) ++ (space ∷ figure (a .headroom) ++ (space ∷ figure (a .gain) ++ l)))
           (sure .1 .0 ∙ ap₂ (λ (d : ℕ) (l : List ℕ). space ∷ d ∷ l) digit (end .1 .0 ∙ ap (λ (l : List ℕ). newline ∷ l) none)))),

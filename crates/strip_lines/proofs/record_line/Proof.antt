@@ -4,8 +4,7 @@ use Prim.Native.Nat.{ℕ}
 use Rattle.units.specs.Replies.{done}
 use mathlib.Core.Path.{refl, sym, ap, _∙_}
 use Rattle.units.specs.Output.{Put, put}
-use Rattle.chain.specs.Answer.{said}
-use Rattle.strip_lines.specs.Lines.{recordLine}
+use Rattle.strip_lines.specs.Lines.{numberOf, recordLine}
 use Rattle.strip_lines.specs.Calls.{lineOf, putRecordLine}
 use Rattle.strip_lines.specs.Laws.Cutting.{printed}
 use Rattle.strip_lines.specs.Laws.Putting.{put-refused, line-refused, put-line-of, put-out-of, to-end}
@@ -54,7 +53,7 @@ returns c =
     let start = branch .before .before .before in
     let a = start .args in
     let out = a .out .now in
-    let text = recordLine (a .number) (said (a .answer)) (a .level .0) (a .headroom .0) (a .gain .0) (a .confident) in
+    let text = recordLine (a .number) (numberOf (a .kind)) (a .level .0) (a .headroom .0) (a .gain .0) (a .confident) in
     let none = sym (branch .before .record-refusal .ensures) ∙ branch .if1 .taken in
     let line = at-line .put-line .ensures in
     let made = at-record .put-record .ensures in
@@ -66,7 +65,7 @@ unfolding putRecordLine
 returns-2 c =
     let start = c .before .before .before in
     let a = start .args in
-    let line = recordLine (a .number) (said (a .answer)) (a .level .0) (a .headroom .0) (a .gain .0) (a .confident) in
+    let line = recordLine (a .number) (numberOf (a .kind)) (a .level .0) (a .headroom .0) (a .gain .0) (a .confident) in
     let reply = c .before .record-refusal .result in
     rw (← c .before .record-refusal .ensures) (sym (line-refused reply line (a .out .now) (c .if1 .left)), sym (ap (λ (p : Put). p .out) (put-refused reply line (a .out .now) (c .if1 .left))))
 

@@ -14,8 +14,7 @@ use Rattle.lists.specs.Each.{Each, each-append}
 use Rattle.rounding.specs.Units.{U, size}
 use Rattle.units.specs.Replies.{done}
 use Rattle.units.specs.Output.{Put, put}
-use Rattle.chain.specs.Answer.{Said}
-use Rattle.strip_lines.specs.Lines.{longest, space, newline, minus, digit, spelled, decimal, hundredths, figure, kind, flag, recordLine, refusalLine}
+use Rattle.strip_lines.specs.Lines.{longest, space, newline, minus, digit, spelled, decimal, hundredths, figure, gapKind, letter, flag, recordLine, refusalLine}
 use Rattle.strip_lines.specs.Calls.{recordRefusal, putRecordLine, putRefusalLine}
 
 -- ---- no zero is signed
@@ -80,14 +79,16 @@ figure-text x =
     (after minus 20 (decimal (hundredths x)) (omega arith) (decimal-text (hundredths x)))
     (wider 20 21 (decimal (hundredths x)) (omega arith) (decimal-text (hundredths x)))
 
-kind-plain : (answer : Said) → space ≤ kind answer
-unfolding kind
-kind-plain answer = go (eqb (answer .number) 0) (eqb (answer .number) 1)
+letter-text : (kind : ℕ) → Text 1 (letter kind)
+unfolding letter
+letter-text kind =
+    chosen (eqb kind 0) 1 (78 ∷ []) _ (one 78 (omega arith))
+    (chosen (eqb kind 1) 1 (87 ∷ []) _ (one 87 (omega arith))
+    (chosen (eqb kind 2) 1 (80 ∷ []) _ (one 80 (omega arith))
+    (chosen (eqb kind gapKind) 1 (71 ∷ []) [] (one 71 (omega arith)) (wider 0 1 [] (omega arith) none))))
   where
-    go : (p q : Bool) → space ≤ cond p 78 (cond q 87 80)
-    go true q = omega arith
-    go false true = omega arith
-    go false false = omega arith
+    one : (b : ℕ) → space ≤ b → Text 1 (b ∷ [])
+    one b h = after b 0 [] h none
 
 flag-plain : (b : Bool) → space ≤ flag b
 flag-plain true = omega arith
@@ -102,15 +103,15 @@ pub record Ended (line : List ℕ) : Type 0 where
 pub ended-fits : (line : List ℕ) → Ended line → length line ≤ longest
 ended-fits line e = omega (arith, ap length (e .ends), length-append (e .body) (newline ∷ []), e .text .short)
 
-module _ (number : ℕ) (answer : Said) (level headroom gain : Float) (confident : Bool) where
+module _ (number kind : ℕ) (level headroom gain : Float) (confident : Bool) where
   record-body : List ℕ
   record-body =
       decimal number
       ++ (space
-      ∷ kind answer
-      ∷ space
+      ∷ letter kind
+      ++ (space
       ∷ figure level
-      ++ (space ∷ figure headroom ++ (space ∷ figure gain ++ (space ∷ flag confident ∷ []))))
+      ++ (space ∷ figure headroom ++ (space ∷ figure gain ++ (space ∷ flag confident ∷ [])))))
 
   record-text : Text 95 record-body
   unfolding record-body
@@ -119,10 +120,10 @@ module _ (number : ℕ) (answer : Said) (level headroom gain : Float) (confident
       let third = after space 23 (figure gain ++ _) (omega arith) (joined 21 2 (figure gain) _ (figure-text gain) last) in
       let second = after space 45 (figure headroom ++ _) (omega arith) (joined 21 24 (figure headroom) _ (figure-text headroom) third) in
       let first = after space 67 (figure level ++ _) (omega arith) (joined 21 46 (figure level) _ (figure-text level) second) in
-      let whole = after space 69 _ (omega arith) (after (kind answer) 68 _ (kind-plain answer) first) in
+      let whole = after space 69 (letter kind ++ _) (omega arith) (joined 1 68 (letter kind) _ (letter-text kind) first) in
       wider 90 95 record-body (omega arith) (joined 20 70 (decimal number) _ (decimal-text number) whole)
 
-  pub record-line-ended : Ended (recordLine number answer level headroom gain confident)
+  pub record-line-ended : Ended (recordLine number kind level headroom gain confident)
   unfolding recordLine record-body
   record-line-ended = record { body = record-body; text = record-text; ends = sym (simp append-assoc) }
 
@@ -142,10 +143,10 @@ module _ (number reply : ℕ) where
   refusal-line-ended = record { body = refusal-body; text = refusal-text; ends = sym (simp append-assoc) }
 
 -- ---- a buffer of 96 bytes is never too short
-pub record-line-fits : (number : ℕ) (answer : Said) (level headroom gain : Float) (confident : Bool)
-    → length (recordLine number answer level headroom gain confident) ≤ longest
-record-line-fits number answer level headroom gain confident =
-    ended-fits (recordLine number answer level headroom gain confident) (record-line-ended number answer level headroom gain confident)
+pub record-line-fits : (number kind : ℕ) (level headroom gain : Float) (confident : Bool)
+    → length (recordLine number kind level headroom gain confident) ≤ longest
+record-line-fits number kind level headroom gain confident =
+    ended-fits (recordLine number kind level headroom gain confident) (record-line-ended number kind level headroom gain confident)
 
 pub refusal-line-fits : (number reply : ℕ) → length (refusalLine number reply) ≤ longest
 refusal-line-fits number reply = ended-fits (refusalLine number reply) (refusal-line-ended number reply)
@@ -155,14 +156,14 @@ put-whole : (line out : List ℕ) → length line ≤ length out → put done li
 unfolding put
 put-whole line out h = rw (is-true (leb (length line) (length out)) (le→leb (length line) (length out) h))
 
-pub record-line-put : (number : ℕ) (answer : Said) (level headroom gain : Float) (confident : Bool) (out : List ℕ)
+pub record-line-put : (number kind : ℕ) (level headroom gain : Float) (confident : Bool) (out : List ℕ)
     → recordRefusal level headroom gain ≡ done → longest ≤ length out
-    → (let line = recordLine number answer level headroom gain confident in putRecordLine number answer level headroom gain confident out ≡ record { reply = done; out = line ++ drop (length line) out })
+    → (let line = recordLine number kind level headroom gain confident in putRecordLine number kind level headroom gain confident out ≡ record { reply = done; out = line ++ drop (length line) out })
 unfolding putRecordLine
-record-line-put number answer level headroom gain confident out e h =
+record-line-put number kind level headroom gain confident out e h =
     rw e
-    (put-whole (recordLine number answer level headroom gain confident) out
-    (le-trans (record-line-fits number answer level headroom gain confident) h))
+    (put-whole (recordLine number kind level headroom gain confident) out
+    (le-trans (record-line-fits number kind level headroom gain confident) h))
 
 pub refusal-line-put : (number reply : ℕ) (out : List ℕ) → longest ≤ length out
     → (let line = refusalLine number reply in putRefusalLine number reply out ≡ record { reply = done; out = line ++ drop (length line) out })

@@ -5,8 +5,7 @@ use Prim.Native.Nat.{ℕ, _≤_}
 use native.Mathlib.Omega.{arith}
 use lib.ListN.{length}
 use borrow.Author.Needs.{needs}
-use Rattle.chain.specs.Calls.{told}
-use Rattle.strip_lines.specs.Lines.{longest}
+use Rattle.strip_lines.specs.Lines.{longest, numberOf}
 use Rattle.strip_run.specs.Lines.{refusedAt}
 use Rattle.strip_run.specs.Run.{lineOut}
 use Rattle.strip_run.specs.declared.Desk.{Desk}
@@ -28,28 +27,26 @@ room-left : {out end : List ℕ} → end ≡ out → longest ≤ length out → 
 room-left e l = omega (arith, ap length e)
 
 refuse-requires : tie.Need-refuse-requires
-unfolding told
 refuse-requires c κs =
     let line = c .before .before .before .before .before .record-line in
     let read = c .before .before .before .before .before .before .before .before .before .before .published in
-    let start = c .before .before .before .before .before .before .before .before .before .before .before .before .before in
+    let start = c .before .before .before .before .before .before .before .before .before .before .before .before in
     let a = start .args in
-    room-left (lined-left (a .desk) (told (a .next)) (read .result .published) (a .out .now) _ (line .result) (start .pre) (line .ensures .0) (line .ensures .1) (c .before .if2 .left) .0) (start .pre)
+    room-left (lined-left (a .desk) (a .chain) (numberOf (a .kind)) (read .result .published) (a .out .now) _ (line .result) (start .pre) (line .ensures .0) (line .ensures .1) (c .before .if2 .left) .0) (start .pre)
 
 refuse-requires-2 : tie.Need-refuse-requires-2
-refuse-requires-2 c κs = c .before .before .before .before .before .before .pre
+refuse-requires-2 c κs = c .before .before .before .before .before .pre
 
 same-length : tie.Need-same-length
 same-length c = search needs
 
 returns : tie.Need-returns
-unfolding told
 returns c =
     let line = c .before .before .before .before .before .record-line in
     let read = c .before .before .before .before .before .before .before .before .before .before .published in
-    let a = c .before .before .before .before .before .before .before .before .before .before .before .before .before .args in
-    moved _ _ (a .out .now) _ _ (published-taken (a .desk) (told (a .next)) (read .result) (read .ensures) (c .before .before .before .before .before .before .before .before .if1 .taken))
-    (lined-done (a .desk) (told (a .next)) (read .result .published) _ (a .out .now) _ (line .result) (line .ensures .0) (line .ensures .1) (c .before .if2 .taken) (c .wrapping-add-u64 .ensures))
+    let a = c .before .before .before .before .before .before .before .before .before .before .before .before .args in
+    moved _ _ (a .out .now) _ _ (published-taken (a .desk) (a .chain) (numberOf (a .kind)) (read .result) (read .ensures) (c .before .before .before .before .before .before .before .before .if1 .taken))
+    (lined-done (a .desk) (a .chain) (numberOf (a .kind)) (read .result .published) _ (a .out .now) _ (line .result) (line .ensures .0) (line .ensures .1) (c .before .if2 .taken) (c .wrapping-add-u64 .ensures))
 
 same-length-2 : tie.Need-same-length-2
 same-length-2 c = search needs
@@ -59,27 +56,25 @@ in-left : (d : Desk) (reply : ℕ) {out middle end : List ℕ} → middle ≡ ou
 in-left d reply e h = h ∙ ap (lineOut (refusedAt d reply)) e
 
 returns-2 : tie.Need-returns-2
-unfolding told
 returns-2 c =
     let line = c .before .before .before .before .before .before .before .before .record-line in
     let read = c .before .before .before .before .before .before .before .before .before .before .before .before .before .published in
-    let start = c .before .before .before .before .before .before .before .before .before .before .before .before .before .before .before .before in
+    let start = c .before .before .before .before .before .before .before .before .before .before .before .before .before .before .before in
     let a = start .args in
-    let left = lined-left (a .desk) (told (a .next)) (read .result .published) (a .out .now) _ (line .result) (start .pre) (line .ensures .0) (line .ensures .1) (c .before .before .before .before .if2 .left) in
+    let left = lined-left (a .desk) (a .chain) (numberOf (a .kind)) (read .result .published) (a .out .now) _ (line .result) (start .pre) (line .ensures .0) (line .ensures .1) (c .before .before .before .before .if2 .left) in
     let refused = c .before .before .refuse in
-    moved _ _ (a .out .now) _ _ (left .1 ∙ published-taken (a .desk) (told (a .next)) (read .result) (read .ensures) (c .before .before .before .before .before .before .before .before .before .before .before .if1 .taken))
+    moved _ _ (a .out .now) _ _ (left .1 ∙ published-taken (a .desk) (a .chain) (numberOf (a .kind)) (read .result) (read .ensures) (c .before .before .before .before .before .before .before .before .before .before .before .if1 .taken))
     (refused .ensures .0, in-left (a .desk) (line .result .reply) (left .0) (refused .ensures .1))
 
 same-length-3 : tie.Need-same-length-3
 same-length-3 c = search needs
 
 returns-3 : tie.Need-returns-3
-unfolding told
 returns-3 c =
     let read = c .before .before .before .before .before .before .published in
-    let a = c .before .before .before .before .before .before .before .before .before .args in
+    let a = c .before .before .before .before .before .before .before .before .args in
     let refused = c .before .before .refuse2 in
-    moved _ _ (a .out .now) _ _ (published-refused (a .desk) (told (a .next)) (read .result) (read .ensures) (c .before .before .before .before .if1 .left)) (refused .ensures .0, refused .ensures .1)
+    moved _ _ (a .out .now) _ _ (published-refused (a .desk) (a .chain) (numberOf (a .kind)) (read .result) (read .ensures) (c .before .before .before .before .if1 .left)) (refused .ensures .0, refused .ensures .1)
 
 pub publish-spec : {M : Type 1} → statement M
 publish-spec =

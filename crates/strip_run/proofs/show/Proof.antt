@@ -30,6 +30,12 @@ take-figures-requires c κs = c .before .before .before .before .before .pre
 enum-told-2 : tie.Need-enum-told-2
 enum-told-2 c = search needs
 
+take-gap-requires : tie.Need-take-gap-requires
+take-gap-requires c κs = c .before .before .before .before .pre
+
+enum-told-3 : tie.Need-enum-told-3
+enum-told-3 c = search needs
+
 enum-known-got-3 : tie.Need-enum-known-got-3
 enum-known-got-3 c = search needs
 
@@ -58,16 +64,23 @@ returns-3 : tie.Need-returns-3
 unfolding shown handed
 returns-3 c = of-case (c .before .before .before .before .before .before .before .before .args .desk) _ _ (c .before .before .before .before .before .before .before .before .args .out .now) _ _ (c .before .before .before .before .before .got2 .given .1) (c .before .before .take-figures .ensures .0, c .before .before .take-figures .ensures .1)
 
-returns-4 : tie.Need-returns-4
-unfolding shown handed
-returns-4 c = of-case (c .before .before .before .before .args .desk) _ _ (c .before .before .before .before .args .out .now) _ _ (c .before .enum-told2 .given .1) (refl, refl)
-
 same-length-3 : tie.Need-same-length-3
 same-length-3 c = search needs
 
+returns-4 : tie.Need-returns-4
+unfolding shown handed
+returns-4 c = of-case (c .before .before .before .before .before .before .before .args .desk) _ _ (c .before .before .before .before .before .before .before .args .out .now) _ _ (c .before .before .before .before .enum-told2 .given .1) (c .before .before .take-gap .ensures .0, c .before .before .take-gap .ensures .1)
+
 returns-5 : tie.Need-returns-5
 unfolding shown handed
-returns-5 c = of-case (c .before .before .before .before .before .before .before .before .args .desk) _ _ (c .before .before .before .before .before .before .before .before .args .out .now) _ _ (c .before .before .before .before .before .got3 .given .1) (c .before .before .refuse .ensures .0, c .before .before .refuse .ensures .1)
+returns-5 c = of-case (c .before .before .before .before .args .desk) _ _ (c .before .before .before .before .args .out .now) _ _ (c .before .enum-told3 .given .1) (refl, refl)
+
+same-length-4 : tie.Need-same-length-4
+same-length-4 c = search needs
+
+returns-6 : tie.Need-returns-6
+unfolding shown handed
+returns-6 c = of-case (c .before .before .before .before .before .before .before .before .args .desk) _ _ (c .before .before .before .before .before .before .before .before .args .out .now) _ _ (c .before .before .before .before .before .got3 .given .1) (c .before .before .refuse .ensures .0, c .before .before .refuse .ensures .1)
 
 pub show-spec : {M : Type 1} → statement M
 show-spec =
@@ -79,6 +92,8 @@ show-spec =
     enum-known-got-2
     take-figures-requires
     enum-told-2
+    take-gap-requires
+    enum-told-3
     enum-known-got-3
     refuse-requires
     returns
@@ -86,6 +101,8 @@ show-spec =
     returns-2
     same-length-2
     returns-3
-    returns-4
     same-length-3
-    returns-5)
+    returns-4
+    returns-5
+    same-length-4
+    returns-6)

@@ -12,7 +12,7 @@ step-silently-requires : tie.Need-step-silently-requires
 step-silently-requires c κs = search needs
 
 publish-requires : tie.Need-publish-requires
-publish-requires c κs = c .before .before .before .before .before .before .before .before .before .pre
+publish-requires c κs = c .before .before .before .before .before .before .before .before .before .before .pre
 
 refuse-requires : tie.Need-refuse-requires
 refuse-requires c κs = c .before .before .before .before .before .before .before .before .before .pre
@@ -26,11 +26,11 @@ same-length c = search needs
 returns : tie.Need-returns
 unfolding told
 returns c =
-    let step = c .before .before .before .before .before .before .step-silently in
-    let read = c .before .before .before .before .before .before .before .before .before .samples in
-    let a = c .before .before .before .before .before .before .before .before .before .before .before .before .args in
+    let step = c .before .before .before .before .before .before .before .step-silently in
+    let read = c .before .before .before .before .before .before .before .before .before .before .samples in
+    let a = c .before .before .before .before .before .before .before .before .before .before .before .before .before .args in
     let put = c .before .before .publish in
-    moved _ _ (a .out .now) _ _ (framed-done (a .desk) (a .figures) (read .result) (read .ensures) (c .before .before .before .before .before .before .before .if1 .taken) (told (step .result)) (step .ensures) (c .before .before .before .before .if2 .taken))
+    moved _ _ (a .out .now) _ _ (framed-done (a .desk) (a .figures) (read .result) (read .ensures) (c .before .before .before .before .before .before .before .before .if1 .taken) (told (step .result)) (step .ensures) (c .before .before .before .before .before .if2 .taken))
     (put .ensures .0, put .ensures .1)
 
 same-length-2 : tie.Need-same-length-2

@@ -4,12 +4,14 @@ use mathlib.Core.Path.{_≡_, refl, sym, _∙_}
 use mathlib.Core.Bool.{Bool, true, false, cond, false≢true}
 use mathlib.Core.List.{List, [], _∷_}
 use Prim.Native.Nat.{ℕ}
-use native.Mathlib.Omega.{arith}
 use borrow.Author.Tests.{eqb-true, eqb-false}
 use lib.Dec.{eqb}
-use Rattle.units.specs.Replies.{done, badLength}
+use Rattle.units.specs.Replies.{done}
 use Rattle.units.specs.declared.figures.Figures.{Figures}
+use Rattle.chain.specs.Calls as Chaining
 use Rattle.chain.specs.Calls.{Told, made, called, publishedTold, samplesTold}
+use Rattle.chain.specs.declared.Chain.{Chain}
+use Rattle.chain.specs.declared.Gapped.{Gapped}
 use Rattle.chain.specs.declared.Made.{Made}
 use Rattle.chain.specs.declared.Published.{Published}
 use Rattle.chain.specs.declared.Reading.{Reading}
@@ -17,11 +19,11 @@ use Rattle.chain.specs.declared.SamplesRead.{SamplesRead}
 use Rattle.strip_format.specs.Format.{versionOf, Entry, figures, gap}
 use Rattle.strip_format.specs.Whole.{Strip, readStrip}
 use Rattle.strip_format.specs.declared.Head.{Head}
-use Rattle.strip_lines.specs.Lines.{recordLine}
+use Rattle.strip_lines.specs.Lines.{gapKind, recordLine}
 use Rattle.strip_lines.specs.Calls.{recordRefusal}
 use Rattle.strip_reader.specs.Reader.{Handed, head, entry, end, refused}
 use Rattle.strip_reader.specs.Feeding.{ending, entriesThen, handedBy}
-use Rattle.strip_run.specs.Lines.{Shown, atStart, after, unchanged, refusedAt, begunWith, begun, silence, lined, publishedWith, published, answered, framedWith, framed, shown, told, deskOf, replyOf}
+use Rattle.strip_run.specs.Lines.{Shown, atStart, after, unchanged, refusedAt, begunWith, begun, silence, lined, publishedWith, published, answered, framedWith, framed, gappedWith, gapped, shown, told, deskOf, replyOf}
 use Rattle.strip_run.specs.declared.Desk.{Desk}
 
 -- a desk that does not go on was refused something: its reply is not 0
@@ -50,26 +52,34 @@ begun-fair d m =
     let next : Desk = record { chain = m .chain; number = after (d .number); more = true; reply = d .reply } in
     either (m .reply) d (unchanged next) (goes-on next refl)
 
-lined-fair : (d : Desk) (t : Told) (p : Published) → Fair (lined d t p .desk)
+lined-fair : (d : Desk) (c : Chain) (kind : ℕ) (p : Published) → Fair (lined d c kind p .desk)
 unfolding lined
-lined-fair d t p =
-    let next : Desk = record { chain = t .chain; number = after (d .number); more = true; reply = d .reply } in
-    let line = recordLine (d .number) (t .answer) (p .level .0) (p .headroom .0) (p .gain .0) (p .confident) in
+lined-fair d c kind p =
+    let next : Desk = record { chain = c; number = after (d .number); more = true; reply = d .reply } in
+    let line = recordLine (d .number) kind (p .level .0) (p .headroom .0) (p .gain .0) (p .confident) in
     either (recordRefusal (p .level .0) (p .headroom .0) (p .gain .0)) d (record { desk = next; line = line }) (goes-on next refl)
 
-published-fair : (d : Desk) (t : Told) (r : Reading) → Fair (publishedWith d t r .desk)
+reading-fair : (d : Desk) (c : Chain) (kind : ℕ) (r : Reading) → Fair (publishedWith d c kind r .desk)
 unfolding publishedWith
-published-fair d t r = either (r .reply) d (lined d t (r .published)) (lined-fair d t (r .published))
+reading-fair d c kind r = either (r .reply) d (lined d c kind (r .published)) (lined-fair d c kind (r .published))
+
+published-fair : (d : Desk) (c : Chain) (kind : ℕ) → Fair (published d c kind .desk)
+unfolding published
+published-fair d c kind = reading-fair d c kind (publishedTold c)
 
 answered-fair : (d : Desk) (t : Told) → Fair (answered d t .desk)
-unfolding answered published
-answered-fair d t = either (t .reply) d (published d t) (published-fair d t (publishedTold (t .chain)))
+unfolding answered
+answered-fair d t = either (t .reply) d (published d (t .chain) (t .answer .number)) (published-fair d (t .chain) (t .answer .number))
 
 framed-fair : (d : Desk) (f : Figures) (r : SamplesRead) → Fair (framedWith d f r .desk)
 unfolding framedWith
 framed-fair d f r =
     let t = called (d .chain) f (silence (r .samples)) 1 (r .samples) .told in
     either (r .reply) d (answered d t) (answered-fair d t)
+
+gapped-fair : (d : Desk) (g : Gapped) → Fair (gappedWith d g .desk)
+unfolding gappedWith
+gapped-fair d g = either (g .reply) d (published d (g .chain) gapKind) (published-fair d (g .chain) gapKind)
 
 -- ---- what is handed out
 kept : (d : Desk) (h : Handed) → Fair d → Fair (shown d h .desk) → Fair (told d h .desk)
@@ -85,9 +95,9 @@ unfolding shown begun
 head-fair d h p = kept d (head h) p (begun-fair d (made (h .settings) (h .threshold) (h .samples)))
 
 entry-fair : (d : Desk) (e : Entry) → Fair d → Fair (told d (entry e) .desk)
-unfolding shown framed
+unfolding shown framed gapped
 entry-fair d (figures f) p = kept d (entry (figures f)) p (framed-fair d f (samplesTold (d .chain)))
-entry-fair d gap p = kept d (entry gap) p (refused-fair d badLength (λ e. omega arith))
+entry-fair d gap p = kept d (entry gap) p (gapped-fair d (Chaining.gap (d .chain)))
 
 -- A refusal is told by its number, and by no other: where 0 is told, it is no refusal.
 refused-told : (d : Desk) (reply : ℕ) → Fair d → told d (refused reply) .desk .reply ≡ done → reply ≡ done

@@ -8,19 +8,22 @@ use native.Mathlib.Omega.{arith}
 use borrow.Author.Tests.{ltb-true}
 use lib.Dec.{eqb, ltb}
 use lib.ListN.{length, length-append}
-use Rattle.units.specs.Replies.{done, badLength, noRoom}
+use Rattle.units.specs.Replies.{done, noRoom}
 use Rattle.units.specs.declared.figures.Figures.{Figures}
+use Rattle.chain.specs.Calls as Chaining
 use Rattle.chain.specs.Calls.{Told, made, called, publishedTold, samplesTold}
+use Rattle.chain.specs.declared.Chain.{Chain}
+use Rattle.chain.specs.declared.Gapped.{Gapped}
 use Rattle.chain.specs.declared.Made.{Made}
 use Rattle.chain.specs.declared.Published.{Published}
 use Rattle.chain.specs.declared.Reading.{Reading}
 use Rattle.chain.specs.declared.SamplesRead.{SamplesRead}
 use Rattle.strip_format.specs.Format.{figures, gap}
-use Rattle.strip_lines.specs.Lines.{longest, recordLine}
+use Rattle.strip_lines.specs.Lines.{longest, gapKind, recordLine}
 use Rattle.strip_lines.specs.Calls.{recordRefusal}
 use Rattle.strip_lines.specs.Laws.Ends.{record-line-fits, refusal-line-fits}
 use Rattle.strip_reader.specs.Reader.{Handed, more, head, entry, end, refused, fed, finished}
-use Rattle.strip_run.specs.Lines.{Shown, after, unchanged, refusedAt, begunWith, begun, silence, lined, publishedWith, published, answered, framedWith, framed, shown, told}
+use Rattle.strip_run.specs.Lines.{Shown, after, unchanged, refusedAt, begunWith, begun, silence, lined, publishedWith, published, answered, framedWith, framed, gappedWith, gapped, shown, told}
 use Rattle.strip_run.specs.Run.{ran, ended, taken, takenOf}
 use Rattle.strip_run.specs.declared.Desk.{Desk}
 use Rattle.strip_run.specs.declared.Run.{Run}
@@ -47,21 +50,28 @@ begun-most d m =
     let next : Desk = record { chain = m .chain; number = after (d .number); more = true; reply = d .reply } in
     either (eqb (m .reply) done) (unchanged next) (refusedAt d (m .reply)) (none next) (refused-most d (m .reply))
 
-lined-most : (d : Desk) (t : Told) (p : Published) → Roomy (lined d t p)
+lined-most : (d : Desk) (c : Chain) (kind : ℕ) (p : Published) → Roomy (lined d c kind p)
 unfolding lined
-lined-most d t p =
+lined-most d c kind p =
     let bad = recordRefusal (p .level .0) (p .headroom .0) (p .gain .0) in
-    let line = recordLine (d .number) (t .answer) (p .level .0) (p .headroom .0) (p .gain .0) (p .confident) in
-    either (eqb bad done) (record { desk = record { chain = t .chain; number = after (d .number); more = true; reply = d .reply }; line = line }) (refusedAt d bad)
-    (record-line-fits (d .number) (t .answer) (p .level .0) (p .headroom .0) (p .gain .0) (p .confident)) (refused-most d bad)
+    let line = recordLine (d .number) kind (p .level .0) (p .headroom .0) (p .gain .0) (p .confident) in
+    either (eqb bad done) (record { desk = record { chain = c; number = after (d .number); more = true; reply = d .reply }; line = line }) (refusedAt d bad)
+    (record-line-fits (d .number) kind (p .level .0) (p .headroom .0) (p .gain .0) (p .confident)) (refused-most d bad)
 
-published-most : (d : Desk) (t : Told) (r : Reading) → Roomy (publishedWith d t r)
+reading-most : (d : Desk) (c : Chain) (kind : ℕ) (r : Reading) → Roomy (publishedWith d c kind r)
 unfolding publishedWith
-published-most d t r = either (eqb (r .reply) done) (lined d t (r .published)) (refusedAt d (r .reply)) (lined-most d t (r .published)) (refused-most d (r .reply))
+reading-most d c kind r =
+    either (eqb (r .reply) done) (lined d c kind (r .published)) (refusedAt d (r .reply)) (lined-most d c kind (r .published)) (refused-most d (r .reply))
+
+published-most : (d : Desk) (c : Chain) (kind : ℕ) → Roomy (published d c kind)
+unfolding published
+published-most d c kind = reading-most d c kind (publishedTold c)
 
 answered-most : (d : Desk) (t : Told) → Roomy (answered d t)
-unfolding answered published
-answered-most d t = either (eqb (t .reply) done) (published d t) (refusedAt d (t .reply)) (published-most d t (publishedTold (t .chain))) (refused-most d (t .reply))
+unfolding answered
+answered-most d t =
+    let kind = t .answer .number in
+    either (eqb (t .reply) done) (published d (t .chain) kind) (refusedAt d (t .reply)) (published-most d (t .chain) kind) (refused-most d (t .reply))
 
 framed-most : (d : Desk) (f : Figures) (r : SamplesRead) → Roomy (framedWith d f r)
 unfolding framedWith
@@ -69,12 +79,17 @@ framed-most d f r =
     let t = called (d .chain) f (silence (r .samples)) 1 (r .samples) .told in
     either (eqb (r .reply) done) (answered d t) (refusedAt d (r .reply)) (answered-most d t) (refused-most d (r .reply))
 
+gapped-most : (d : Desk) (g : Gapped) → Roomy (gappedWith d g)
+unfolding gappedWith
+gapped-most d g =
+    either (eqb (g .reply) done) (published d (g .chain) gapKind) (refusedAt d (g .reply)) (published-most d (g .chain) gapKind) (refused-most d (g .reply))
+
 shown-most : (d : Desk) (h : Handed) → Roomy (shown d h)
-unfolding shown begun framed
+unfolding shown begun framed gapped
 shown-most d more = none d
 shown-most d (head h) = begun-most d (made (h .settings) (h .threshold) (h .samples))
 shown-most d (entry (figures f)) = framed-most d f (samplesTold (d .chain))
-shown-most d (entry gap) = refused-most d badLength
+shown-most d (entry gap) = gapped-most d (Chaining.gap (d .chain))
 shown-most d end = none (record { chain = d .chain; number = d .number; more = false; reply = d .reply })
 shown-most d (refused reply) = refused-most d reply
 

@@ -13,9 +13,7 @@ use mathlib.Core.List.{[], _∷_}
 use Rattle.lists.specs.Tests.{each-of}
 use Rattle.strip_format.specs.Format.{versionOf}
 use Rattle.strip_format.specs.Calls.{readHead, readRecord, readOf, told, toldOf}
-use Rattle.strip_format.specs.Laws.Records.{records-stay}
 use Rattle.strip_format.specs.Laws.Answers.{read-is}
-use Rattle.strip_format.specs.declared.Version.the-variants.{One}
 use Rattle.strip_format.specs.declared.HeadRead.{HeadRead}
 use Rattle.strip_format.specs.declared.RecordRead.{RecordRead}
 use Rattle.strip_reader.specs.Reader.{room, atHead, over, passes, Fed, more, handed, stepOf, headFed, recordFed, fed}
@@ -101,12 +99,12 @@ returns-2 c =
 
 -- a byte of a record
 in-record : (r : Reader) (byte : ℕ) {b : Bool} (read : RecordRead) {s : Fed} → b ≡ passes r → b ≡ true → (r .stage ≡ over → ⊥) → (r .stage ≡ atHead → ⊥)
-    → told read ≡ toldOf (readRecord One (take (r .count + 1) (set (r .held) (r .count) byte)) 0) → s ≡ recordFed (r .version) (set (r .held) (r .count) byte) (r .count + 1) (readOf read)
+    → told read ≡ toldOf (readRecord (r .version) (take (r .count + 1) (set (r .held) (r .count) byte)) 0) → s ≡ recordFed (r .version) (set (r .held) (r .count) byte) (r .count + 1) (readOf read)
     → s ≡ fed r byte
 unfolding fed
 in-record r byte read p t n z h e =
     let bytes = take (r .count + 1) (set (r .held) (r .count) byte) in
-    e ∙ rw (← p, t, ne-eqb (r .stage) over n, ne-eqb (r .stage) atHead z, read-is One bytes read h, records-stay (r .version) One bytes 0)
+    e ∙ rw (← p, t, ne-eqb (r .stage) over n, ne-eqb (r .stage) atHead z, read-is (r .version) bytes read h)
 
 returns-3 : tie.Need-returns-3
 returns-3 c =
