@@ -123,7 +123,7 @@ stops() { # NAME LINE BYTES STRIP: the file is standard input; BYTES are those o
 wav --samples 4800 --short 1000 >"$room/cut.wav"
 stops "a recording that is cut" "the WAV file is cut: 1000 bytes of its samples are missing" 8600 "$room/480.strip" <"$room/cut.wav"
 stops "a recording that is cut inside a sample" "the WAV file is cut: 2 bytes of its samples are missing" 9598 "$room/480.strip" < <(wav --samples 4800 --short 1)
-stops "a strip that is too short" "the strip ends before the recording, which goes on with frame 11" 9600 "$room/480.strip" < <(wav --samples 4801)
+stops "a strip that is too short" "the strip ends before the recording, which goes on: there is no record 11" 9600 "$room/480.strip" < <(wav --samples 4801)
 stops "a strip that is too long" "the recording ends before the strip, which goes on with record 10" 8160 "$room/480.strip" < <(wav --samples 4080)
 stops "a strip for no sample" "the recording ends before the strip, which goes on with record 1" 0 "$room/480.strip" < <(wav --samples 0)
 stops "a record that is cut" "10 R 5" 8640 <(head -c 240 "$room/480.strip") <"$good"
@@ -131,10 +131,26 @@ stops "a record of a wrong length" "3 R 6" 1920 \
     <(head -c 70 "$room/480.strip"; printf '\0\x15'; tail -c +73 "$room/480.strip") <"$good"
 stops "a record whose figure is no number" "1 R 2" 0 \
     <(head -c 28 "$room/480.strip"; printf '\x7f\xc0\0\0'; tail -c +33 "$room/480.strip") <"$good"
-# The records of version 2 are those of version 1, one byte further on.
-stops "version 2: a strip that is too short" "the strip ends before the recording, which goes on with frame 11" 9600 "$room/480.two" < <(wav --samples 4801)
+stops "a record of length 0" "3 R 6" 1920 <(head -c 70 "$room/480.strip"; printf '\0\0'; tail -c +71 "$room/480.strip") <"$good"
+# The records of version 2 are those of version 1, one byte further on; and one of length 0 is a gap, of which more below.
+stops "version 2: a strip that is too short" "the strip ends before the recording, which goes on: there is no record 11" 9600 "$room/480.two" < <(wav --samples 4801)
 stops "version 2: a record that is cut" "10 R 5" 8640 <(head -c 241 "$room/480.two") <"$good"
-stops "version 2: a record of length 0" "3 R 6" 1920 <(head -c 71 "$room/480.two"; printf '\0\0'; tail -c +72 "$room/480.two") <"$good"
+stops "version 2: a record of a wrong length" "3 R 6" 1920 <(head -c 71 "$room/480.two"; printf '\0\x15'; tail -c +74 "$room/480.two") <"$good"
+# A gap of version 2 takes no sound, and is a record with its number. A length of 0 is none of version 1.
+gapped() { # STRIP: with a gap in front, two as records 4 and 5, and two at the end
+    head -c 27 "$1"
+    printf '\0\0'
+    tail -c +28 "$1" | head -c 44
+    printf '\0\0\0\0'
+    tail -c +72 "$1"
+    printf '\0\0\0\0'
+}
+stops "gaps: a record that is cut behind them" "13 R 5" 8640 <(gapped "$room/480.two" | head -c 250) <"$good"
+stops "gaps: half a gap" "5 R 5" 1920 <(gapped "$room/480.two" | head -c 76) <"$good"
+stops "gaps: a strip that is too long, without its gaps" "the recording ends before the strip, which goes on with record 13" 8160 \
+    <(gapped "$room/480.two") < <(wav --samples 4080)
+stops "gaps: a record behind the last gaps" "the recording ends before the strip, which goes on with record 16" 9600 \
+    <(gapped "$room/480.two"; tail -c 22 "$room/480.two") <"$good"
 stops "version 2: a record whose figure is no number" "1 R 2" 0 \
     <(head -c 29 "$room/480.two"; printf '\x7f\xc0\0\0'; tail -c +34 "$room/480.two") <"$good"
 
@@ -169,6 +185,23 @@ levels "a strip of version 2" "$good" <(twin "$room/480.flat") <"$good"
 twin "$room/480.flat" >"$room/480.flat-two"
 levels "a strip of version 2 that comes in pieces" "$good" <(pieces "$room/480.flat-two" 2 3 4 5 26 27 28 71) <"$good"
 levels "a strip of version 2 with a threshold of 3000" "$good" <(flat 10 480 3000) <"$good"
+levels "gaps take no sound, also behind the last frame" "$good" <(gapped "$room/480.flat-two") <"$good"
+gapped "$room/480.flat-two" >"$room/480.gapped"
+levels "gaps that come in pieces" "$good" <(pieces "$room/480.gapped" 27 28 29 30 73 74 75 76 77 78 79 80 253 254 255 256) <"$good"
+# A gap breaks a run: the gain rises in the fourth frame of speech in a row, and until then the sound stays as it is.
+for both in none:4 1:5 3:7 4:4; do
+    {
+        echo "head version 2 threshold 4 samples 480 initial-gain 0"
+        for frame in {1..10}; do
+            echo "1 -50 -40 -80 -60"
+            if [ "$frame" = "${both%:*}" ]; then echo gap; fi
+        done
+    } | tools/strip-maker to-strip >"$room/rising.strip"
+    kept "$room/rising.strip" <"$good"
+    first=$(cmp "$good" "$room/got" | sed -n 's/.*byte \([0-9]*\),.*/\1/p')
+    same "recording: a gap behind frame ${both%:*} of a reading: the first frame that is louder, and 0 is said at the end" "${both#*:} 0" \
+        "$(((${first:-0} - 45) / 960 + 1)) $(cat "$room/end")"
+done
 levels "a size that is no whole number of samples: the whole ones" "$good" "$room/480.flat" < <(wav --samples 4800 --size 9601)
 for channels in 1 2 3 8; do
     wav --rate 8000 --channels $channels --samples 793 --seed $channels --loud 20000 >"$room/in.wav"
@@ -302,7 +335,7 @@ for version in 1 2; do
     for records in 184 185 186 187; do
         kept <(head -c $((25 + version + 22 * records)) "$room/blocks.$version") <"$room/185.wav"
         told=""
-        [ $records -lt 185 ] && told="recording: the strip ends before the recording, which goes on with frame 185"
+        [ $records -lt 185 ] && told="recording: the strip ends before the recording, which goes on: there is no record 185"
         [ $records -gt 185 ] && told="recording: the recording ends before the strip, which goes on with record 186"
         same "recording: version $version, $records records for 185 frames: what is told, and said at the end" "$told $(end_of "$told")" "$(cat "$room/err") $(cat "$room/end")"
         same_file "recording: version $version, $records records for 185 frames" <(head -c $((44 + 160 * (records < 185 ? records : 185))) "$room/185.wav") "$room/got"
@@ -335,7 +368,19 @@ wav --samples 0 >"$room/empty.wav"
 fails "a read that fails behind samples that are none" 0 "$room/none.flat" "$room/empty.wav" <"$room/empty.wav"
 
 # Sound that is levelled, of 1, 2 and 8 channels, with a short last frame: as the ruled Rust levels it, whose digests are
-# stored.
+# stored. It knows no gaps, so these stand where they change nothing: before the first frame, after each that is no speech, and with
+# a threshold of 1, which one of the strips has, after any.
+with_gaps() { # STRIP: of version 1
+    python - "$1" <<'GAPS'
+import struct, sys
+strip = open(sys.argv[1], "rb").read()
+out = b"\0\x19\2\0" + strip[3:26] + b"\0\0"
+for at in range(26, len(strip), 22):
+    speech = struct.unpack_from(">f", strip, at + 2)[0] > 0.9
+    out += strip[at : at + 22] + (b"" if speech and strip[3] > 1 else b"\0\0\0\0")
+sys.stdout.buffer.write(out)
+GAPS
+}
 tests/some-recordings "$room/some"
 while read -r digest name; do
     kept "$room/some/$name.strip" <"$room/some/$name.wav"
@@ -343,6 +388,8 @@ while read -r digest name; do
     same "recording: $name: the digest of what the ruled Rust writes" "$digest" "$(sha256sum <"$room/got" | head -c 64)"
     kept <(twin "$room/some/$name.strip") <"$room/some/$name.wav"
     same "recording: $name, by a strip of version 2: the same digest, and 0 is said at the end" "$digest 0" "$(sha256sum <"$room/got" | head -c 64) $(cat "$room/end")"
+    kept <(with_gaps "$room/some/$name.strip") <"$room/some/$name.wav"
+    same "recording: $name, and gaps that change nothing: the same digest, and 0 is said at the end" "$digest 0" "$(sha256sum <"$room/got" | head -c 64) $(cat "$room/end")"
 done <tests/some-recordings.sha256
 
 # A threshold of 3000: what was read for thirty seconds counts with its last frame, and until then the sound stays as it is.
@@ -352,6 +399,116 @@ kept "$room/thirty.strip" <"$room/thirty.wav"
 same "recording: thirty seconds, and a threshold of 3000: nothing is told, and 0 is said at the end" " 0" "$(cat "$room/err") $(cat "$room/end")"
 first=$(cmp "$room/thirty.wav" "$room/got" | sed -n 's/.*byte \([0-9]*\),.*/\1/p')
 same "recording: thirty seconds, and a threshold of 3000: the first sample that is louder is one of frame 3000" 3000 "$(((${first:-0} - 45) / 80 + 1))"
+
+# A strip of version 2 may have gaps, which take no sound. Ten frames, and strips for them by their bytes.
+two() { # THRESHOLD SAMPLES WORDS..: S is a frame of speech, N one of none, G a gap, with how many there are before it
+    python - "$@" <<'TWO'
+import re, struct, sys
+threshold, samples, words = int(sys.argv[1]), int(sys.argv[2]), " ".join(sys.argv[3:])
+kinds = {"S": struct.pack(">H5f", 20, 1, -50, -40, -80, -60), "N": struct.pack(">H5f", 20, 0, -50, -40, -80, -60), "G": b"\0\0"}
+write = sys.stdout.buffer.write
+write(struct.pack(">HBHH5f", 25, 2, threshold, samples, 5, 50, 0, 6, -50))
+write(b"".join(int(count or 1) * kinds[kind] for count, kind in re.findall("([0-9]*)([SNG])", words)))
+TWO
+}
+wav --rate 8000 --samples 800 --loud 3000 --seed 4 >"$room/ten.wav"
+wav --rate 8000 --samples 0 >"$room/no.wav"
+# Where no frame is speech every sample stays as it was.
+while read -r words; do
+    levels "a strip of $words" "$room/ten.wav" <(two 4 80 $words) <"$room/ten.wav"
+done <<<"10N
+3N G 7N
+G 10N
+5G 10N
+5N 3000G 5N
+10N G
+10N 3000G
+GN GN GN GN GN GN GN GN GN GN G"
+levels "no frame, and a strip of 3G" "$room/no.wav" <(two 4 80 3G) <"$room/no.wav"
+two 4 80 G 5N 3G 5N 2G >"$room/gaps.two"
+levels "a strip that is cut in its gaps" "$room/ten.wav" <(pieces "$room/gaps.two" 28 139 140 141 142 143 144 256 257 258) <"$room/ten.wav"
+# A gap has a number as every record has, and what is told numbers by it.
+ends="the strip ends before the recording, which goes on: there is no record"
+goes="the recording ends before the strip, which goes on with record"
+stops "gaps, and a strip that is too short" "$ends 8" 960 <(two 4 80 3N G 3N) <"$room/ten.wav"
+stops "gaps at the end of a strip that is too short" "$ends 10" 960 <(two 4 80 3N G 3N 2G) <"$room/ten.wav"
+stops "a strip of gaps alone" "$ends 4" 0 <(two 4 80 3G) <"$room/ten.wav"
+stops "a wrong length behind gaps" "6 R 6" 480 <(two 4 80 G 3N G; printf '\0\x15') <"$room/ten.wav"
+stops "a cut record behind gaps" "6 R 5" 480 <(two 4 80 G 3N G; printf '\0') <"$room/ten.wav"
+stops "no number behind gaps" "6 R 2" 480 <(two 4 80 G 3N G; printf '\0\x14\x7f\xc0\0\0'; head -c 16 /dev/zero) <"$room/ten.wav"
+stops "figures behind the last frame" "$goes 11" 1600 <(two 4 80 10N N) <"$room/ten.wav"
+stops "gaps, and figures behind the last frame" "$goes 14" 1600 <(two 4 80 G 10N 2G N) <"$room/ten.wav"
+stops "many gaps, and figures behind the last frame" "$goes 3011" 1600 <(two 4 80 10N 3000G 2N) <"$room/ten.wav"
+stops "gaps, and a cut record behind the last frame" "$goes 13" 1600 <(two 4 80 10N 2G; printf '\0') <"$room/ten.wav"
+stops "gaps, and a wrong length behind the last frame" "$goes 13" 1600 <(two 4 80 10N 2G; printf '\0\x15') <"$room/ten.wav"
+stops "no frame, and figures behind gaps" "$goes 4" 0 <(two 4 80 3G N) <"$room/no.wav"
+stops "a recording that is cut, and gaps behind it" "the WAV file is cut: 160 bytes of its samples are missing" 1440 <(two 4 80 9N 3G) \
+    < <(head -c $((44 + 1440)) "$room/ten.wav")
+# A gap ends a run of speech. Speech that did not last is then as no speech at all, with the same noise and envelope; a gap where
+# there is no run, and any gap with a threshold of 1, is as none.
+as() { # NAME THRESHOLD WORDS OTHER-WORDS [differs]: the sound of both strips is the same, or is not
+    run <(two "$2" 80 $4) <"$room/forty.wav" >"$room/due" 2>"$room/err" 3>"$room/end"
+    same "recording: $1: $4: what is told, and said at the end" " 0" "$(cat "$room/err") $(cat "$room/end")"
+    kept <(two "$2" 80 $3) <"$room/forty.wav"
+    same "recording: $1: $3: what is told, and said at the end" " 0" "$(cat "$room/err") $(cat "$room/end")"
+    if [ "${5-}" = differs ]; then
+        same "recording: $1: $3 is not as $4" no "$(cmp -s "$room/due" "$room/got" && echo yes || echo no)"
+    else
+        same_file "recording: $1: $3 is as $4" "$room/due" "$room/got"
+    fi
+}
+wav --rate 8000 --samples 3200 --loud 3000 --seed 5 >"$room/forty.wav"
+as "a gap in speech" 4 "3S G 3S 34N" "40N"
+as "a gap in speech" 4 "3S G 3S 34N" "6S 34N" differs
+as "a gap in speech after a reading" 4 "10S 5N 3S G 3S 19N" "10S 30N"
+as "a gap in speech after a reading" 4 "10S 5N 3S G 3S 19N" "10S 5N 6S 19N" differs
+as "a gap, and then a reading" 4 "2S G 38S" "2N 38S"
+as "a gap, and then a reading" 4 "2S G 38S" "40S" differs
+as "a gap in a reading" 4 "20S G 3S 17N" "20S 20N"
+as "a gap in a reading" 4 "20S G 3S 17N" "23S 17N" differs
+as "gaps where no run is" 4 "3G 3N G 20S N 2G 3S 2N G 10S N 5G" "3N 20S N 3S 2N 10S N"
+as "two gaps in a row" 4 "10S 2G 30S" "10S G 30S"
+as "a gap at each end of a frame" 4 "10S G S G 29S" "10S G N 29S"
+as "gaps with a threshold of 1" 1 "G 10S G 10S 2G 5N G S G S 13N G" "20S 5N 2S 13N"
+as "a gap with a threshold of 30" 30 "20S G 20S" "40N"
+as "a gap with a threshold of 30" 30 "20S G 20S" "40S" differs
+# Speech, pauses and gaps at random: a gap is as a frame of silence that is no speech and is cut out again, since the gain that this
+# sound comes to never falls.
+python - "$room" <<'RANDOM'
+import random, struct, sys
+source, room = random.Random(8), sys.argv[1]
+kinds, now = [], "N"
+for _ in range(200):
+    now = source.choice("SN") if source.random() < 0.2 else now
+    kinds.append("G" if source.random() < 0.2 else now)
+def entry(kind):
+    rms = source.uniform(-55, -45)
+    return struct.pack(">H5f", 20, kind == "S", rms, rms + source.uniform(0, 10), -80, -60)
+records = [entry(kind) for kind in kinds]
+sound = [struct.pack("<80h", *(source.randint(-1000, 1000) for _ in range(80))) for _ in kinds]
+gap, silence = struct.pack(">H5f", 20, 0, -50, -40, -80, -60), bytes(160)
+def write(name, *parts):
+    open(f"{room}/{name}", "wb").write(b"".join(b"".join(part) if isinstance(part, list) else part for part in parts))
+def wave(name, frames):
+    write(name, b"RIFF", struct.pack("<I", 36 + 160 * len(frames)), b"WAVEfmt ", struct.pack("<IHHIIHH", 16, 1, 1, 8000, 16000, 2, 16),
+          b"data", struct.pack("<I", 160 * len(frames)), frames)
+def each(of_gap, of_frame):
+    return [part for kind, frame in zip(kinds, of_frame) for part in (of_gap if kind == "G" else [frame])]
+head = struct.pack(">HBHH5f", 25, 2, 4, 80, 5, 50, 0, 6, -50)
+write("gaps.strip", head, each([b"\0\0"], records))
+write("silence.strip", head, each([gap], records))
+write("without.strip", head, each([], records))
+wave("gaps.wav", each([], sound))
+wave("silence.wav", each([silence], sound))
+write("kinds", "".join(kinds).encode())
+RANDOM
+run "$room/silence.strip" <"$room/silence.wav" 2>/dev/null 3>/dev/null |
+    python -c 'import sys; f = sys.stdin.buffer.read()[44:]; sys.stdout.buffer.write(b"".join(f[160 * i : 160 * i + 160] for i, k in enumerate(open(sys.argv[1]).read()) if k != "G"))' "$room/kinds" >"$room/due"
+run "$room/without.strip" <"$room/gaps.wav" 2>/dev/null 3>/dev/null | tail -c +45 >"$room/without"
+kept "$room/gaps.strip" <"$room/gaps.wav"
+same "recording: gaps at random: nothing is told, and 0 is said at the end" " 0" "$(cat "$room/err") $(cat "$room/end")"
+same_file "recording: gaps at random: each is as silence that is cut out" "$room/due" <(tail -c +45 "$room/got")
+same "recording: gaps at random: they are not as none" no "$(cmp -s "$room/without" "$room/due" && echo yes || echo no)"
 
 # Silence in gives silence out.
 wav --samples 4800 --loud 0 >"$room/silent.wav"
@@ -393,10 +550,11 @@ righted "a recording that is cut inside a sample, and a named output" "8600 8636
 righted "a recording without one of its samples, and a named output" "0 36" "$(missing 9600)" "$room/none.flat" "$room/empty.wav" < <(head -c 44 "$good")
 righted "no sample of an unknown size, and a named output" "0 36" "" "$room/none.flat" "$room/empty.wav" < <(wav --samples 0 --size 4294967295)
 righted "a size that is true, and a named output" "9600 9636" "recording: the recording ends before the strip, which goes on with record 11" <(flat 11 480) "$good" <"$good"
+righted "gaps, ffmpeg's size, and a named output" "9600 9636" "" <(two 4 480 G 5N 2G 5N G) "$good" < <(wav --samples 4800 --size 4294967295)
 # Where the run did not go well the head stays as it was.
 flat 9 480 >"$room/nine.flat"
 head -c $((44 + 8640)) "$good" >"$room/8640.wav"
-righted "a strip that ends, and a named output" "4294967295 4294967295" "recording: the strip ends before the recording, which goes on with frame 10" \
+righted "a strip that ends, and a named output" "4294967295 4294967295" "recording: the strip ends before the recording, which goes on: there is no record 10" \
     "$room/nine.flat" "$room/8640.wav" < <(wav --samples 4800 --size 4294967295)
 righted "a record that is refused, and a named output" "4294967295 4294967295" "10 R 5" \
     <(head -c 240 "$room/480.flat") "$room/8640.wav" < <(wav --samples 4800 --size 4294967295)
@@ -541,6 +699,9 @@ wait "$program"
 same "recording: two minutes end with status 0" 0 $?
 same "recording: two minutes are told one by one, and 0 is said at the end" "recording: 1 min recording: 2 min 0" "$(paste -sd' ' "$room/err") $(cat "$room/end")"
 same_file "recording: two minutes: every byte" "$room/long.wav" "$room/got"
+kept <(two 4 40 3000G 6000N 3000G 6000N) <"$room/long.wav"
+same "recording: two minutes, and gaps, which do not count for them" "recording: 1 min recording: 2 min 0" "$(paste -sd' ' "$room/err") $(cat "$room/end")"
+same_file "recording: two minutes, and gaps: every byte" "$room/long.wav" "$room/got"
 if [ -n "$before" ] && [ -n "$after" ] && [ "$after" -le $((before + 500)) ]; then
     echo "ok recording: two minutes take no more memory than a second ($before kB, $after kB)"
 else
@@ -667,6 +828,7 @@ same_file "recording: ./level recording" "$good" "$room/got"
 same_file "recording: ./level recording from another folder" "$good" "$room/got"
 ./level recording "$room/long.strip" <"$room/long.wav" >/dev/null 2>"$room/err"
 same "recording: ./level ends with status 0 where only minutes are told" "0 recording: 1 min recording: 2 min" "$? $(paste -sd' ' "$room/err")"
+same "recording: ./level ends with status 0 where gaps come behind the last frame" 0 "$(status ./level recording "$room/gaps.two" <"$room/ten.wav")"
 same "recording: ./level ends with status 1 where the recording is cut" 1 "$(status ./level recording "$room/480.strip" <"$room/cut.wav")"
 same "recording: ./level ends with status 2 where there is no such strip" 2 "$(status ./level recording "$room/nothing" <"$good")"
 same "recording: ./level ends with status 1 where the strip is too long" 1 "$(status ./level recording "$room/long.strip" < <(wav --rate 4000))"

@@ -7,7 +7,6 @@ use crate::output::close;
 use crate::output::write;
 use crate::output::write_first;
 use crate::strip::draw_next;
-use crate::strip::rest_of;
 use crate::told;
 use recording_run::answer::Answer;
 use recording_run::answer::of_run;
@@ -20,6 +19,8 @@ use recording_run::levelling::heard_run;
 use recording_run::levelling::put_right;
 use recording_run::levelling::take_entry;
 use recording_run::levelling::told_at_end;
+use recording_run::rest::Rest;
+use recording_run::rest::take_rest;
 use recording_run::strip::Source;
 use wav_format::head::LONGEST_HEAD;
 
@@ -40,21 +41,52 @@ pub(crate) struct Both {
     pub source: Source,
 }
 
-// Draws the record of a frame of which so many bytes were heard, levels the frame and writes it.
-fn with_record(desk: Desk, block: &mut [u8], bytes: &mut [u8], n: usize, both: Both) -> Both {
-    let source = both.source;
-    let run = both.run;
-    let drawn = draw_next(desk.strip, block, source);
+// The same after what came out of the strip for a frame, how many bytes of the frame are written, and whether it still waits
+// for its figures.
+struct Taken {
+    both: Both,
+    n: usize,
+    again: bool,
+}
+
+// Draws what comes next out of the strip, and takes it for a frame of which so many bytes were heard.
+fn take_next(desk: Desk, block: &mut [u8], bytes: &mut [u8], n: usize, both: Both) -> Taken {
+    let before = both.source;
+    let heard = both.run;
+    let drawn = draw_next(desk.strip, block, before);
     let got = drawn.got;
-    let turn = take_entry(run, n, got, bytes, desk.channels, desk.samples);
+    let turn = take_entry(heard, n, got, bytes, desk.channels, desk.samples);
     let told = turn.told;
     told::of_run(told);
-    let next = turn.run;
-    let after = after_write(next, write(desk.out, bytes, turn.n));
-    let rest = drawn.source;
+    let run = turn.run;
+    let source = drawn.source;
+    Taken {
+        both: Both { run, source },
+        n: turn.n,
+        again: turn.again,
+    }
+}
+
+// Takes the gaps that the strip has before the figures of a frame, of which so many bytes were heard, and these, and writes
+// the frame. A proved loop has to end, so it counts its turns down, from a number that no run uses up.
+fn with_record(desk: Desk, block: &mut [u8], bytes: &mut [u8], n: usize, both: Both) -> Both {
+    let mut now = Taken {
+        both,
+        n: 0,
+        again: true,
+    };
+    let mut turns = u64::MAX;
+    while turns > 0 && now.again {
+        let before = now.both;
+        now = take_next(desk, block, bytes, n, before);
+        turns -= 1;
+    }
+    let last = now.both;
+    let run = last.run;
+    let source = last.source;
     Both {
-        run: after,
-        source: rest,
+        run: after_write(run, write(desk.out, bytes, now.n)),
+        source,
     }
 }
 
@@ -119,14 +151,36 @@ fn right_head(desk: Desk, run: Run) -> bool {
     }
 }
 
+// Takes the gaps that the strip has behind the last frame, and what comes then. A proved loop has to end, so it counts its
+// turns down, from a number that no run uses up.
+fn rest_of(strip: i32, block: &mut [u8], both: Both) -> Rest {
+    let first = both.run;
+    let mut source = both.source;
+    let mut now = Rest {
+        run: first,
+        goes: false,
+        again: true,
+        failed: false,
+    };
+    let mut turns = u64::MAX;
+    while turns > 0 && now.again {
+        let drawn = draw_next(strip, block, source);
+        source = drawn.source;
+        let got = drawn.got;
+        let run = now.run;
+        now = take_rest(run, got);
+        turns -= 1;
+    }
+    now
+}
+
 // The end of a run that went well: it looks whether there is more behind the samples and in the strip, puts the head right
 // and closes the output.
 fn end_well(desk: Desk, block: &mut [u8], both: Both) -> Answer {
-    let run = both.run;
-    let source = both.source;
     let behind = look_behind(desk.size);
-    let rest = rest_of(desk.strip, block, source);
-    let told = told_at_end(run, desk.size, desk.channels, behind.n, rest.n);
+    let rest = rest_of(desk.strip, block, both);
+    let run = rest.run;
+    let told = told_at_end(run, desk.size, desk.channels, behind.n, rest.goes);
     told::of_run(told);
     let righted = right_head(desk, run);
     let closed = close(desk.out, righted);

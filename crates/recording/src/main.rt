@@ -1,6 +1,6 @@
-// Levels a recording: reads a WAV file of 16-bit samples from standard input, and for each 10 ms a record of the strip
-// that the first word names, and writes the levelled WAV file to standard output, or to the file that a second word names.
-// Whatever ends it before is told on standard error, and so is each minute.
+// Levels a recording: reads a WAV file of 16-bit samples from standard input, and for each 10 ms the figures in the strip
+// that the first word names, and the gaps before them, and writes the levelled WAV file to standard output, or to the file
+// that a second word names. Whatever ends it before is told on standard error, and so is each minute.
 //
 // Without a word it meters the WAV file: to standard output it writes twelve bytes, and then twelve for each 10 ms, as the
 // crate `loudness` has them.
@@ -89,7 +89,7 @@ fn with_strip(strip: i32, named: bool, search: Search, size: u32) {
             told::refused(reply, 0);
             told::at_end(of_refusal(reply));
         }
-        Got::More | Got::Record(_) | Got::End => {}
+        Got::More | Got::Record(_) | Got::Gap | Got::End => {}
     }
 }
 

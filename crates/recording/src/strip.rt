@@ -1,12 +1,10 @@
 // The strip, read block by block.
 
 use crate::input::read_once;
-use recording_run::input::Filled;
 use recording_run::strip::Drawn;
 use recording_run::strip::Source;
 use recording_run::strip::draw;
 use recording_run::strip::refill;
-use recording_run::strip::unused;
 
 // Draws what comes next out of the strip: reads blocks until something does, the strip ends or a read fails. Each block is
 // what one read brings, so that a strip that is still being written is taken as it comes. A proved loop has to end, so it
@@ -21,18 +19,4 @@ pub(crate) fn draw_next(strip: i32, block: &mut [u8], source: Source) -> Drawn {
         turns -= 1;
     }
     now
-}
-
-// The bytes that the strip still has, as far as they are read: none at its end.
-pub(crate) fn rest_of(strip: i32, block: &mut [u8], source: Source) -> Filled {
-    let left = unused(source);
-    if 0 < left {
-        Filled {
-            n: left,
-            more: true,
-            failed: false,
-        }
-    } else {
-        read_once(strip, block, 0)
-    }
 }

@@ -88,7 +88,7 @@ pub(crate) fn of_run(told: Told) {
         Told::Nothing => {}
         Told::Minute(n) => tell_number(b"recording: ", n, b" min\n"),
         Told::StripEnds(number) => tell_number(
-            b"recording: the strip ends before the recording, which goes on with frame ",
+            b"recording: the strip ends before the recording, which goes on: there is no record ",
             number,
             b"\n",
         ),

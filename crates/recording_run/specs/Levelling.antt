@@ -6,7 +6,7 @@ use lib.Dec.{eqb, leb, ltb}
 use lib.ListN.{take, drop}
 use Rattle.units.specs.Replies.{done, badShape}
 use Rattle.units.specs.declared.figures.Figures.{Figures}
-use Rattle.chain.specs.Calls.{made}
+use Rattle.chain.specs.Calls.{made, gap}
 use Rattle.chain.specs.declared.Chain.{Chain}
 use Rattle.strip_format.specs.declared.Head.{Head}
 use Rattle.strip_reader.specs.declared.Got.{Got}
@@ -39,7 +39,7 @@ extentOf size channels =
 unfoldable pub frameBytes : ℕ → ℕ → ℕ
 frameBytes channels samples = cond (leb channels 8 && leb samples 480) (2 * (channels * samples)) 0
 
--- ---- the start: the head of the levelled file, a new chain, and the frame of number 1
+-- ---- the start: the head of the levelled file, a new chain, no frame, and the record of number 1
 pub record Beginning : Type 0 where
   pub begun : Begun
   pub out : List ℕ
@@ -49,7 +49,7 @@ begun head channels samples mask size out =
     let extent = extentOf size channels in
     let written = putHead channels samples mask (extent .size) out in
     let chain = made (head .settings) (head .threshold) (head .samples) .chain in
-    let run : Run = record { chain = chain; number = 1; left = extent .left; more = true; well = true; refused = 0 } in
+    let run : Run = record { chain = chain; number = 1; frames = 0; left = extent .left; more = true; well = true; refused = 0 } in
     cond (eqb samples (head .samples))
     (record { begun = record { reply = written .reply; head = headLength mask; run = run }; out = written .out })
     (record { begun = record { reply = badShape; head = headLength mask; run = run }; out = out })
@@ -67,54 +67,79 @@ silenced from bytes = take from bytes ++ quiet (drop from bytes)
 -- there is no frame where no byte of a whole group came, or where a read failed, and then not all went well
 abbrev pub heard : Run → ℕ → Bool → Run
 heard run n failed =
-    record { chain = run .chain; number = run .number; left = run .left; more = ltb 0 n && not failed; well = not failed; refused = run .refused }
+    record { chain = run .chain; number = run .number; frames = run .frames; left = run .left; more = ltb 0 n && not failed; well = not failed; refused = run .refused }
 
 -- ---- it is levelled
--- the run after a frame, what is told and how many bytes are written, and the bytes
+-- the run after it, what is told, how many bytes are written and whether the frame still waits for its figures; and the bytes
 pub record Framed : Type 0 where
   pub turn : Turn
   pub bytes : List ℕ
 
 -- 6000 frames are a minute
 unfoldable pub minute : ℕ → Told
-minute number = cond (eqb (number % 6000) 0) (Minute (number / 6000)) Nothing
+minute frames = cond (eqb (frames % 6000) 0) (Minute (frames / 6000)) Nothing
 
 -- the run ends, and nothing is written; the strip was refused with this reply, or with 0 was not
 abbrev pub stopped : Run → Told → ℕ → Turn
 stopped run told refused =
     record {
-      run = record { chain = run .chain; number = run .number; left = run .left; more = false; well = false; refused = refused };
+      run = record { chain = run .chain; number = run .number; frames = run .frames; left = run .left; more = false; well = false; refused = refused };
       told = told;
       n = 0;
+      again = false;
     }
 
 unfoldable pub framed : Run → ℕ → Figures → List ℕ → ℕ → ℕ → Framed
 framed run n figures bytes channels samples =
     let after = levelled (run .chain) figures bytes channels samples in
+    let frames = (run .frames + 1) % 2 ^ 64 in
     record {
       turn =
           cond (eqb (after .next .reply) done)
           (record {
-            run = record { chain = after .next .chain; number = (run .number + 1) % 2 ^ 64; left = run .left - n; more = true; well = true; refused = 0 };
-            told = minute (run .number);
+            run = record { chain = after .next .chain; number = (run .number + 1) % 2 ^ 64; frames = frames; left = run .left - n; more = true; well = true; refused = 0 };
+            told = minute frames;
             n = n;
+            again = false;
           })
           (stopped run (Refused (after .next .reply) (run .number)) (after .next .reply));
       bytes = after .bytes;
     }
 
--- with what came out of the strip for it: without a record the run ends
+-- a gap: the run goes on with this chain and the next number, and takes no sound
+abbrev pub afterGap : Run → Chain → Run
+afterGap run chain =
+    record { chain = chain; number = (run .number + 1) % 2 ^ 64; frames = run .frames; left = run .left; more = run .more; well = run .well; refused = run .refused }
+
+-- nothing is written, and the frame still waits for its figures; a chain that fails its test refuses the gap
+unfoldable pub gapped : Run → Turn
+gapped run =
+    let after = gap (run .chain) in
+    cond (eqb (after .reply) done)
+    (record { run = afterGap run (after .chain); told = Nothing; n = 0; again = true })
+    (stopped run (Refused (after .reply) (run .number)) (after .reply))
+
+-- with what came out of the strip for it: figures, or a gap before them; without these the run ends
 unfoldable pub entered : Got → Run → ℕ → List ℕ → ℕ → ℕ → Framed
 entered Came.More run n bytes channels samples = record { turn = stopped run Nothing 0; bytes = bytes }
 entered (Came.Head head) run n bytes channels samples = record { turn = stopped run Nothing 0; bytes = bytes }
 entered (Came.Record figures) run n bytes channels samples = framed run n figures bytes channels samples
+entered Came.Gap run n bytes channels samples = record { turn = gapped run; bytes = bytes }
 entered Came.End run n bytes channels samples = record { turn = stopped run (StripEnds (run .number)) 0; bytes = bytes }
 entered (Came.Refused reply) run n bytes channels samples = record { turn = stopped run (Refused reply (run .number)) reply; bytes = bytes }
 
 -- ---- it is written, or could not be
 abbrev pub afterWrite : Run → Bool → Run
 afterWrite run written =
-    record { chain = run .chain; number = run .number; left = run .left; more = run .more && written; well = run .well && written; refused = run .refused }
+    record {
+      chain = run .chain;
+      number = run .number;
+      frames = run .frames;
+      left = run .left;
+      more = run .more && written;
+      well = run .well && written;
+      refused = run .refused;
+    }
 
 -- ---- the end
 -- behind samples of which the file says that there are none one byte is looked for
@@ -126,13 +151,13 @@ unfoldable pub ofSamples : ℕ → ℕ → ℕ → ℕ → Told → Told
 ofSamples size channels left behind other =
     cond (extentOf size channels .known && ltb 0 left) (Missing left) (cond (eqb size 0 && ltb 0 behind) SaysNone other)
 
--- what is told of a strip that has so many bytes more
-unfoldable pub ofRest : ℕ → ℕ → Told
-ofRest rest number = cond (ltb 0 rest) (StripGoesOn number) Nothing
+-- what is told of a strip that goes on, or does not, with the record of this number
+unfoldable pub ofRest : Bool → ℕ → Told
+ofRest goes number = cond goes (StripGoesOn number) Nothing
 
 -- what is told of a run that went well: first of the samples, then of the strip
-unfoldable pub atEnd : Run → ℕ → ℕ → ℕ → ℕ → Told
-atEnd run size channels behind rest = cond (run .well) (ofSamples size channels (run .left) behind (ofRest rest (run .number))) Nothing
+unfoldable pub atEnd : Run → ℕ → ℕ → ℕ → Bool → Told
+atEnd run size channels behind goes = cond (run .well) (ofSamples size channels (run .left) behind (ofRest goes (run .number))) Nothing
 
 -- how many bytes of samples were written
 abbrev pub writtenBytes : Run → ℕ → ℕ → ℕ

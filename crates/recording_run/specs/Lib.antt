@@ -3,6 +3,7 @@ pub mod Input
 pub mod Wave
 pub mod Strip
 pub mod Levelling
+pub mod Rest
 pub mod Metering
 pub mod Answer
 pub mod Laws

@@ -1,7 +1,7 @@
 -- A strip that is read block by block. Definitions only.
 use mathlib.Core.Bool.{Bool, false, cond}
 use mathlib.Core.List.{List}
-use Prim.Native.Nat.{ℕ, _+_, _-_}
+use Prim.Native.Nat.{ℕ, _+_}
 use lib.Dec.{ltb}
 use lib.ListN.{take, drop}
 use Rattle.strip_reader.specs.Reader.{Handed, more, handed, isMore, fresh, finished, next}
@@ -38,7 +38,3 @@ refilled source block came failed =
     (cond (ltb 0 came)
     (drawnFrom (record { reader = source .reader; at = 0; n = came }) block)
     (record { source = source; got = finished (source .reader); more = false }))
-
--- what is filled and not used
-abbrev pub unusedIn : Source → ℕ
-unusedIn source = source .n - source .at

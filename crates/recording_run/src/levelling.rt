@@ -2,7 +2,7 @@
 
 ghost use mathlib.Core.Path.{_≡_};
 ghost use Prim.Native.Nat.{_≤_};
-ghost use Rattle.recording_run.specs.Levelling.{wholeGroups, isUnknown, extentOf, frameBytes, begun, silenced, heard, minute, stopped, framed, entered, afterWrite, behindBytes, ofSamples, ofRest, atEnd, righted};
+ghost use Rattle.recording_run.specs.Levelling.{wholeGroups, isUnknown, extentOf, frameBytes, begun, silenced, heard, minute, stopped, framed, afterGap, gapped, entered, afterWrite, behindBytes, ofSamples, ofRest, atEnd, righted};
 use crate::input::less;
 use chain::Chain;
 use recording_frame::level_bytes;
@@ -29,10 +29,10 @@ const SIZED_BYTES: usize = 8;
 // So many frames are a minute.
 const MINUTE: u64 = 6000;
 
-// What is told of a run: nothing; that so many minutes are levelled; that the strip ends before the frame of this number;
-// that a record is refused with this reply, and its number; that so many bytes of the samples are missing; that the file
-// says that it has no samples, and goes on behind them; or that the strip goes on with the record of this number after the
-// recording.
+// What is told of a run: nothing; that so many minutes are levelled; that the strip ends before the recording, and has no
+// record of this number; that a record is refused with this reply, and its number; that so many bytes of the samples are
+// missing; that the file says that it has no samples, and goes on behind them; or that the strip goes on with the record of
+// this number after the recording.
 pub enum Told {
     Nothing,
     Minute(u64),
@@ -43,11 +43,13 @@ pub enum Told {
     StripGoesOn(u64),
 }
 
-// How far a run is: the chain, the number of the next frame, how many bytes of samples are still to come, whether it goes
-// on, whether all went well so far, and the reply with which the strip was refused, which is 0 where it was not.
+// How far a run is: the chain, the number of the next record, which may be a gap, how many frames are levelled, how many
+// bytes of samples are still to come, whether it goes on, whether all went well so far, and the reply with which the strip
+// was refused, which is 0 where it was not.
 pub struct Run {
     pub chain: Chain,
     pub number: u64,
+    pub frames: u64,
     pub left: usize,
     pub more: bool,
     pub well: bool,
@@ -68,11 +70,13 @@ pub struct Begun {
     pub run: Run,
 }
 
-// The run after a frame, what is told of it, and how many of its bytes are written.
+// The run after what came out of the strip for a frame, what is told of it, how many bytes of the frame are written, and
+// whether the frame still waits for its figures, since a gap came.
 pub struct Turn {
     pub run: Run,
     pub told: Told,
     pub n: usize,
+    pub again: bool,
 }
 
 // So many bytes, without those of a group of samples that is not whole. Of more than 8 channels, and of none, it is 0.
@@ -149,6 +153,7 @@ pub fn begin(
     let run = Run {
         chain,
         number: 1,
+        frames: 0,
         left: extent.left,
         more: true,
         well: true,
@@ -199,6 +204,7 @@ pub fn heard_run(run: Run, n: usize, failed: bool) -> Run
     Run {
         chain,
         number: run.number,
+        frames: run.frames,
         left: run.left,
         more: (0 < n) & !failed,
         well: !failed,
@@ -206,12 +212,12 @@ pub fn heard_run(run: Run, n: usize, failed: bool) -> Run
     }
 }
 
-// What is told of a frame that is levelled: each minute.
-fn told_minute(number: u64) -> Told
-    ensures { λ r. ⌜ r ≡ minute number ⌝ }
+// What is told once so many frames are levelled: each minute.
+fn told_minute(frames: u64) -> Told
+    ensures { λ r. ⌜ r ≡ minute frames ⌝ }
 {
-    if number % MINUTE == 0 {
-        Told::Minute(number / MINUTE)
+    if frames % MINUTE == 0 {
+        Told::Minute(frames / MINUTE)
     } else {
         Told::Nothing
     }
@@ -226,6 +232,7 @@ fn stop(run: Run, told: Told, refused: u32) -> Turn
         run: Run {
             chain,
             number: run.number,
+            frames: run.frames,
             left: run.left,
             more: false,
             well: false,
@@ -233,6 +240,7 @@ fn stop(run: Run, told: Told, refused: u32) -> Turn
         },
         told,
         n: 0,
+        again: false,
     }
 }
 
@@ -252,26 +260,67 @@ fn take_figures(
     let next = level_bytes(before, figures, bytes, channels, samples);
     if next.reply == DONE {
         let chain = next.chain;
+        let frames = wrapping_add_u64(run.frames, 1);
         Turn {
             run: Run {
                 chain,
                 number: wrapping_add_u64(run.number, 1),
+                frames,
                 left: less(run.left, n),
                 more: true,
                 well: true,
                 refused: 0,
             },
-            told: told_minute(run.number),
+            told: told_minute(frames),
             n,
+            again: false,
         }
     } else {
         stop(run, Told::Refused(next.reply, run.number), next.reply)
     }
 }
 
-// Levels a frame of which so many bytes were heard, with what came out of the strip for it. The run ends where that is no
-// record, and where the chain refuses the frame; the bytes stay as they were then. Nothing comes out where a read failed,
-// which was told, and after the first time no head does.
+// The run after a gap, with the chain that took it: the gap has the next number, and no sound.
+pub(crate) fn after_gap(run: Run, chain: Chain) -> Run
+    ensures { λ r. ⌜ r ≡ afterGap run chain ⌝ }
+{
+    let next = wrapping_add_u64(run.number, 1);
+    let frames = run.frames;
+    Run {
+        chain,
+        number: next,
+        frames,
+        left: run.left,
+        more: run.more,
+        well: run.well,
+        refused: run.refused,
+    }
+}
+
+// Marks a gap that stands before the figures of a frame, which waits for them: none of its bytes are written. A chain that
+// fails its test, which a run never has, refuses the gap, and the run ends.
+fn take_gap(run: Run) -> Turn
+    ensures { λ r. ⌜ r ≡ gapped run ⌝ }
+{
+    let before = run.chain;
+    let gapped = before.gap();
+    if gapped.reply == DONE {
+        let chain = gapped.chain;
+        Turn {
+            run: after_gap(run, chain),
+            told: Told::Nothing,
+            n: 0,
+            again: true,
+        }
+    } else {
+        stop(run, Told::Refused(gapped.reply, run.number), gapped.reply)
+    }
+}
+
+// Levels a frame of which so many bytes were heard, with what came out of the strip for it. A gap is marked, and the frame
+// waits for what comes next. The run ends where neither figures nor a gap came, and where the chain refuses them. The bytes
+// stay as they were but where the frame is levelled. Nothing comes out where a read failed, which was told, and after the
+// first time no head does.
 pub fn take_entry(
     run: Run,
     n: usize,
@@ -287,6 +336,7 @@ pub fn take_entry(
         Got::More => stop(run, Told::Nothing, 0),
         Got::Head(_) => stop(run, Told::Nothing, 0),
         Got::Record(figures) => take_figures(run, n, figures, bytes, channels, samples),
+        Got::Gap => take_gap(run),
         Got::End => stop(run, Told::StripEnds(run.number), 0),
         Got::Refused(reply) => stop(run, Told::Refused(reply, run.number), reply),
     }
@@ -301,6 +351,7 @@ pub fn after_write(run: Run, written: bool) -> Run
     Run {
         chain,
         number: run.number,
+        frames: run.frames,
         left: run.left,
         more: run.more & written,
         well: run.well & written,
@@ -337,11 +388,11 @@ pub(crate) fn told_of_samples(
     }
 }
 
-// What is told of a strip that has so many bytes more, of which the next record has this number.
-fn told_of_rest(rest: usize, number: u64) -> Told
-    ensures { λ r. ⌜ r ≡ ofRest rest number ⌝ }
+// What is told of a strip that goes on, or does not, with the record of this number.
+fn told_of_rest(goes: bool, number: u64) -> Told
+    ensures { λ r. ⌜ r ≡ ofRest goes number ⌝ }
 {
-    if 0 < rest {
+    if goes {
         Told::StripGoesOn(number)
     } else {
         Told::Nothing
@@ -349,10 +400,10 @@ fn told_of_rest(rest: usize, number: u64) -> Told
 }
 
 // What is told at the end of a run over samples whose chunk says this size, where so many bytes come behind them, of those
-// that were looked for, and the strip has so many more: first of the samples, then that the strip goes on. Of a run that
+// that were looked for, and the strip goes on or does not: first of the samples, then that the strip goes on. Of a run that
 // did not go well all is told.
-pub fn told_at_end(run: Run, size: u32, channels: usize, behind: usize, rest: usize) -> Told
-    ensures { λ r. ⌜ r ≡ atEnd run size channels behind rest ⌝ }
+pub fn told_at_end(run: Run, size: u32, channels: usize, behind: usize, goes: bool) -> Told
+    ensures { λ r. ⌜ r ≡ atEnd run size channels behind goes ⌝ }
 {
     if run.well {
         told_of_samples(
@@ -360,7 +411,7 @@ pub fn told_at_end(run: Run, size: u32, channels: usize, behind: usize, rest: us
             channels,
             run.left,
             behind,
-            told_of_rest(rest, run.number),
+            told_of_rest(goes, run.number),
         )
     } else {
         Told::Nothing

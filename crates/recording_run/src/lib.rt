@@ -6,5 +6,6 @@ pub mod answer;
 pub mod input;
 pub mod levelling;
 pub mod metering;
+pub mod rest;
 pub mod strip;
 pub mod wave;

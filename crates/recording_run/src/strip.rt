@@ -3,8 +3,7 @@
 ghost use mathlib.Core.Path.{_≡_};
 ghost use Prim.Native.Nat.{_≤_};
 ghost use lib.ListN.{length, take};
-ghost use Rattle.recording_run.specs.Strip.{newSource, drawnOf, drawnFrom, refilled, unusedIn};
-use crate::input::less;
+ghost use Rattle.recording_run.specs.Strip.{newSource, drawnOf, drawnFrom, refilled};
 use strip_reader::Got;
 use strip_reader::Reader;
 use strip_reader::is_more;
@@ -91,11 +90,4 @@ pub fn refill(source: Source, block: &[u8], came: usize, failed: bool) -> Drawn
             more: false,
         }
     }
-}
-
-// How many bytes of the block are filled and not used.
-pub fn unused(source: Source) -> usize
-    ensures { λ r. ⌜ r ≡ unusedIn source ⌝ }
-{
-    less(source.n, source.at)
 }

@@ -25,6 +25,12 @@ take-figures-requires c κs = search needs
 enum-told-3 : tie.Need-enum-told-3
 enum-told-3 c = search needs
 
+take-gap-requires : tie.Need-take-gap-requires
+take-gap-requires c κs = search needs
+
+enum-told-4 : tie.Need-enum-told-4
+enum-told-4 c = search needs
+
 stop-requires-3 : tie.Need-stop-requires-3
 stop-requires-3 c κs = search needs
 
@@ -51,11 +57,15 @@ returns-3 c = (rw (c .before .before .before .before .before .got .given .1, c .
 
 returns-4 : tie.Need-returns-4
 unfolding entered
-returns-4 c = (rw (c .before .enum-told3 .given .1, c .stop3 .ensures), rw (c .before .enum-told3 .given .1))
+returns-4 c = (rw (c .before .enum-told3 .given .1, c .take-gap .ensures), rw (c .before .enum-told3 .given .1))
 
 returns-5 : tie.Need-returns-5
 unfolding entered
-returns-5 c = (rw (c .before .before .got2 .given .1, c .stop4 .ensures), rw (c .before .before .got2 .given .1))
+returns-5 c = (rw (c .before .enum-told4 .given .1, c .stop3 .ensures), rw (c .before .enum-told4 .given .1))
+
+returns-6 : tie.Need-returns-6
+unfolding entered
+returns-6 c = (rw (c .before .before .got2 .given .1, c .stop4 .ensures), rw (c .before .before .got2 .given .1))
 
 pub take-entry-spec : {M : Type 1} → statement M
 take-entry-spec =
@@ -68,6 +78,8 @@ take-entry-spec =
     enum-known-got
     take-figures-requires
     enum-told-3
+    take-gap-requires
+    enum-told-4
     stop-requires-3
     enum-known-got-2
     stop-requires-4
@@ -76,4 +88,5 @@ take-entry-spec =
     same-length
     returns-3
     returns-4
-    returns-5)
+    returns-5
+    returns-6)

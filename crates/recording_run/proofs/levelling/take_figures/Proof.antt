@@ -11,6 +11,9 @@ level-bytes-requires c κs = search needs
 wrapping-add-u64-requires : tie.Need-wrapping-add-u64-requires
 wrapping-add-u64-requires c κs = search needs
 
+wrapping-add-u64-requires-2 : tie.Need-wrapping-add-u64-requires-2
+wrapping-add-u64-requires-2 c κs = search needs
+
 less-requires : tie.Need-less-requires
 less-requires c κs = search needs
 
@@ -25,7 +28,13 @@ same-length c = search needs
 
 returns : tie.Need-returns
 unfolding framed
-returns c = (rw (← c .before .before .before .before .before .before .before .before .level-bytes .ensures .0, eq-eqb _ _ (c .before .before .before .before .if1 .taken), c .told-minute .ensures, c .before .less .ensures, c .before .before .wrapping-add-u64 .ensures), c .before .before .before .before .before .before .before .before .level-bytes .ensures .1)
+returns c =
+    let less = c .before in
+    let number = less .before in
+    let frames = number .before in
+    let test = frames .before .before in
+    let levelled = test .before .before .before .before in
+    (rw (← levelled .level-bytes .ensures .0, eq-eqb _ _ (test .if1 .taken), c .told-minute .ensures, less .less .ensures, number .wrapping-add-u642 .ensures, frames .wrapping-add-u64 .ensures), levelled .level-bytes .ensures .1)
 
 same-length-2 : tie.Need-same-length-2
 same-length-2 c = search needs
@@ -40,6 +49,7 @@ take-figures-spec =
     (tie.spec
     level-bytes-requires
     wrapping-add-u64-requires
+    wrapping-add-u64-requires-2
     less-requires
     told-minute-requires
     stop-requires

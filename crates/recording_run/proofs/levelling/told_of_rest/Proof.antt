@@ -1,16 +1,15 @@
 -- `recording_run::levelling::told_of_rest` meets its contract. Assumes nothing.
-use borrow.Author.Tests.{lt-ltb, le-ltb}
 use Rattle.recording_run.specs.Levelling.{ofRest}
 use Rattle.recording_run.proofs.levelling.told_of_rest.Statement.{statement}
 use Rattle.recording_run.proofs.levelling.told_of_rest.Tie as tie
 
 returns : tie.Need-returns
 unfolding ofRest
-returns c = rw (lt-ltb _ _ (c .if1 .taken))
+returns c = rw (c .if1 .taken)
 
 returns-2 : tie.Need-returns-2
 unfolding ofRest
-returns-2 c = rw (le-ltb _ _ (c .if1 .left))
+returns-2 c = rw (c .if1 .left)
 
 pub told-of-rest-spec : {M : Type 1} → statement M
 told-of-rest-spec = tie.close (tie.spec returns returns-2)
