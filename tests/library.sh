@@ -34,6 +34,20 @@ same "and with other lines it fails" "1 1" "$? $(grep -c '^not ok' "$room/said")
 { printf '\x00\x19\x02\x00' && tail -c +4 examples/service.strip; } >"$room/two.strip"
 library/build --run test-c "$room/two.strip" examples/service.lines >"$room/said" 2>&1
 same "test-c takes a strip of version 2" "0 0" "$? $(grep -c '^not ok' "$room/said")"
+# And with gaps, records of length 0, where nothing is being said: at the start, and two after every frame that is no speech. They
+# change nothing, so that each has the figures of the line before it, and the first those of a new box, which its first frame leaves.
+{
+    head -c 27 "$room/two.strip" && printf '\0\0'
+    while read -r number kind _; do
+        tail -c "+$((22 * number + 6))" "$room/two.strip" | head -c 22
+        [ "$kind" != N ] || printf '\0\0\0\0'
+    done <examples/service.lines
+} >"$room/gaps.strip"
+awk 'NR == 1 { print ++n, "G", $3, $4, $5, $6 } { kind = $2; $1 = ++n; print }
+    kind == "N" { $2 = "G"; for (i = 0; i < 2; i++) { $1 = ++n; print } }' examples/service.lines >"$room/gaps.lines"
+same "a service with gaps in its pauses" "142 2451" "$(wc -l <"$room/gaps.lines" | tr -d ' ') $(wc -c <"$room/gaps.strip" | tr -d ' ')"
+library/build --run test-c "$room/gaps.strip" "$room/gaps.lines" >"$room/said" 2>&1
+same "test-c takes a strip with gaps, which change no other line" "0 0" "$? $(grep -c '^not ok' "$room/said")"
 
 # The words are judged before anything is built: a script stands in for rt, in a copy where nothing is.
 mkdir -p "$room/copy" "$room/bin"
@@ -152,6 +166,8 @@ MURZICANU_LINES=$room/other.lines library/build --run test-rust a_service >"$roo
 same "the library from Rust: with other lines, which a variable names, its service fails" "101 1" "$? $(grep -c '_due \.\.\. FAILED$' "$room/rust")"
 MURZICANU_STRIP=$room/two.strip library/build --run test-rust a_service >"$room/rust" 2>&1
 same "the library from Rust: the service as a strip of version 2" "0 1" "$? $(grep -c '_due \.\.\. ok$' "$room/rust")"
+MURZICANU_STRIP=$room/gaps.strip MURZICANU_LINES=$room/gaps.lines library/build --run test-rust a_service >"$room/rust" 2>&1
+same "the library from Rust: the service with gaps in its pauses" "0 1" "$? $(grep -c '_due \.\.\. ok$' "$room/rust")"
 
 # The two examples of the whole box are the same service, so they tell the same gain.
 library/build --run level-c >"$room/c"
@@ -202,6 +218,7 @@ int main(void) {
     float frame[480] = {0}, level;
     uint32_t refused = murzicanu_chain_new(&chain, &settings, 12, 480);
     refused |= murzicanu_chain_step(&chain, &figures, frame, 480, 1, 480, &answer);
+    refused |= murzicanu_chain_gap(&chain);
     refused |= murzicanu_chain_read(&chain, &now);
     refused |= murzicanu_limiter_new(&limiter, 480);
     refused |= murzicanu_limiter_step(&limiter, frame, 480, 1, 480);
@@ -211,7 +228,7 @@ int main(void) {
 }
 END
 line=$(sed -n 's/^    \(gcc .*my\.c.*\)$/\1/p' docs/EMBEDDING.md)
-same "the line for gcc in docs/EMBEDDING.md links all seven functions, and no other library" "version $version, refused with 0 no -l" \
+same "the line for gcc in docs/EMBEDDING.md links all eight functions, and no other library" "version $version, refused with 0 no -l" \
     "$(${line/my.c/$room/my.c} -o "$room/my" && "$room/my") $(case "$line " in *" -l"*) ;; *) echo "no -l" ;; esac)"
 
 if ! cargo --version >/dev/null 2>&1; then
@@ -231,6 +248,7 @@ uint32_t murzicanu_version(void) { return 99; }
 uint32_t murzicanu_chain_new(murzicanu_chain *a, const murzicanu_settings *b, uint32_t c, size_t d) { return !a + !b + !c + !d; }
 uint32_t murzicanu_chain_step(murzicanu_chain *a, const murzicanu_figures *b, float *c, size_t d, size_t e, size_t f,
                               murzicanu_answer *g) { return !a + !b + !c + !d + !e + !f + !g; }
+uint32_t murzicanu_chain_gap(murzicanu_chain *a) { return !a; }
 uint32_t murzicanu_chain_read(const murzicanu_chain *a, murzicanu_published *b) { return !a + !b; }
 uint32_t murzicanu_limiter_new(murzicanu_limiter *a, size_t b) { return !a + !b; }
 uint32_t murzicanu_limiter_step(murzicanu_limiter *a, float *b, size_t c, size_t d, size_t e) { return !a + !b + !c + !d + !e; }

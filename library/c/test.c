@@ -34,7 +34,7 @@ static float real(const unsigned char *at) {
 static long hundredths(float x) { return (long)((double)x * 100.0); }
 
 /* A service run through the library over silent frames, each line as the program `strip` prints it. A strip of version 1
- * has its threshold in one byte, and one of version 2 in two. */
+ * has its threshold in one byte, and one of version 2 in two; there a record of length 0 is a gap. */
 static void service(const char *strip, const char *lines) {
     FILE *in = fopen(strip, "rb"), *due = fopen(lines, "r");
     unsigned char head[27], record[22];
@@ -49,15 +49,25 @@ static void service(const char *strip, const char *lines) {
     murzicanu_chain chain;
     check(murzicanu_chain_new(&chain, &settings, big(head + 3, version), samples) == MURZICANU_DONE, "a new chain");
     int same = 1, count = 0;
-    while (fread(record, 1, 22, in) == 22) {
+    while (fread(record, 1, 2, in) == 2) {
         float frame[480] = {0};
-        murzicanu_figures figures = {real(record + 2), real(record + 6), real(record + 10), real(record + 14), real(record + 18)};
-        murzicanu_answer answer;
-        murzicanu_published now;
-        char made[128] = "", line[128] = "";
-        if (murzicanu_chain_step(&chain, &figures, frame, samples, 1, samples, &answer) == MURZICANU_DONE &&
-            murzicanu_chain_read(&chain, &now) == MURZICANU_DONE)
-            snprintf(made, sizeof made, "%d %c %ld %ld %ld %u\n", count + 1, "NWP"[answer.kind], hundredths(now.level),
+        murzicanu_answer answer = {0, 0, 0, 0};
+        murzicanu_published now = {0, 0, 0, 0};
+        char made[128] = "", line[128] = "", kind = 'G';
+        uint32_t reply;
+        if (version == 2 && big(record, 2) == 0) {
+            reply = murzicanu_chain_gap(&chain);
+        } else {
+            if (fread(record + 2, 1, 20, in) != 20) {
+                same = 0;
+                break;
+            }
+            murzicanu_figures figures = {real(record + 2), real(record + 6), real(record + 10), real(record + 14), real(record + 18)};
+            reply = murzicanu_chain_step(&chain, &figures, frame, samples, 1, samples, &answer);
+            kind = answer.kind < 3 ? "NWP"[answer.kind] : '?';
+        }
+        if (reply == MURZICANU_DONE && murzicanu_chain_read(&chain, &now) == MURZICANU_DONE)
+            snprintf(made, sizeof made, "%d %c %ld %ld %ld %u\n", count + 1, kind, hundredths(now.level),
                      hundredths(now.headroom), hundredths(now.gain), now.confident);
         same = same && fgets(line, sizeof line, due) && strcmp(made, line) == 0;
         if (answer.kind == MURZICANU_PUBLISHING)
@@ -113,6 +123,13 @@ static int chain_refused(murzicanu_chain *chain, const murzicanu_figures *figure
     *reply = murzicanu_chain_step(chain, figures, frame, length, channels, samples, &answer);
     return *reply != MURZICANU_DONE && unchanged(chain, &before, sizeof before) &&
            unchanged(frame, sound, sizeof sound) && all_0(&answer, sizeof answer);
+}
+
+/* A gap that is refused with 4, and changes no byte. */
+static int gap_refused(murzicanu_chain *chain) {
+    murzicanu_chain before;
+    memcpy(&before, chain, sizeof before);
+    return murzicanu_chain_gap(chain) == MURZICANU_SETTING && unchanged(chain, &before, sizeof before);
 }
 
 static int limiter_refused(murzicanu_limiter *limiter, float *frame, size_t length, size_t channels, size_t samples,
@@ -281,6 +298,8 @@ static void many(void) {
         if (kind == 4 && damaged.limiter.estimator.samples != SAMPLES)
             due = MURZICANU_SHAPE;
         good = good && reply == due;
+        if (kind == 4)
+            good = good && gap_refused(&damaged);
         seen[reply < 5 ? reply : 0]++;
         calls++;
         if (kind != 2) {
@@ -345,6 +364,108 @@ static void longest(void) {
           "a run of 2999 frames that a pause ends leaves no byte in the chain");
 }
 
+/* What a gap is refused for: a state that fails its test, and nothing else. */
+static void gaps_refused(void) {
+    murzicanu_chain chain, other;
+    murzicanu_limiter limiter;
+    int good = 1;
+    check(made(&chain, &limiter, 0xAA, 20), "a chain over memory filled with 0xAA, for its gaps");
+    for (int pattern = 0; pattern < 256; pattern++) {
+        memset(&other, pattern, sizeof other);
+        good = good && gap_refused(&other);
+    }
+    check(good, "a gap of a chain that was never made is refused with 4 and changes no byte, whatever stands there");
+    murzicanu_speech_level *const level = &other.estimator;
+    murzicanu_protector *const peaks = &other.protector;
+    murzicanu_controller *const gain = &other.controller;
+    murzicanu_limiter *const limits = &other.limiter;
+    uint32_t *const numbers[] = {&level->threshold, &level->preliminary.left, &level->confident, &level->count,
+                                 &peaks->threshold, &peaks->reliable.ring.place, &peaks->reliable.ring.size,
+                                 &gain->applier.clip, &gain->threshold, &gain->waiting, &limits->estimator.samples,
+                                 &limits->estimator.part, &limits->curve.available, &limits->curve.region};
+    float *const reals[] = {&level->settings.headroom, &level->level, &level->reliable.sum, &peaks->initial,
+                            &peaks->headroom, &peaks->preliminary.headroom, &gain->applier.current, &gain->change,
+                            &gain->gain, &limits->estimator.level, &limits->carried};
+    good = 1;
+    for (size_t i = 0; i < sizeof numbers / sizeof *numbers; i++) {
+        memcpy(&other, &chain, sizeof other);
+        *numbers[i] = 0xAAAAAAAAu;
+        good = good && gap_refused(&other);
+    }
+    for (size_t i = 0; i < sizeof reals / sizeof *reals; i++) {
+        memcpy(&other, &chain, sizeof other);
+        *reals[i] = NAN;
+        good = good && gap_refused(&other);
+    }
+    check(good, "a gap of a damaged chain is refused with 4 and changes no byte, for each of 25 fields");
+    murzicanu_settings settings = MURZICANU_USUAL_SETTINGS;
+    good = murzicanu_chain_new(&other, &settings, 0, SAMPLES) == MURZICANU_SETTING && gap_refused(&other);
+    check(good, "so is one of a chain that was refused as new");
+    check(murzicanu_chain_gap(&chain) == MURZICANU_DONE, "and the chain that was made takes it");
+}
+
+/* Gaps are where adjacent frames end. */
+static void gaps(void) {
+    const murzicanu_figures pause = {0.05f, -70.0f, -60.0f, -80.0f, -60.0f};
+    const uint32_t thresholds[] = {2, 12, 200, 3000};
+    murzicanu_settings settings = MURZICANU_USUAL_SETTINGS;
+    murzicanu_chain chain, other, before;
+    murzicanu_limiter limiter;
+    murzicanu_published first, now;
+    for (int t = 0; t < 4; t++) {
+        int run = (int)thresholds[t] - 1, with[3] = {0}, without[3] = {0};
+        char name[96];
+        int good = murzicanu_chain_new(&chain, &settings, thresholds[t], 40) == MURZICANU_DONE;
+        other = chain;
+        good = good && murzicanu_chain_read(&chain, &first) == MURZICANU_DONE && heard(&chain, SPEECH, run, with) &&
+               murzicanu_chain_gap(&chain) == MURZICANU_DONE && heard(&chain, SPEECH, run, with) &&
+               murzicanu_chain_read(&chain, &now) == MURZICANU_DONE;
+        good = good && with[MURZICANU_WAITING] == 2 * run && with[MURZICANU_PUBLISHING] == 0 &&
+               unchanged(&now, &first, sizeof now);
+        snprintf(name, sizeof name, "with threshold %u a run of %d, a gap and a run of %d never publish", thresholds[t], run, run);
+        check(good, name);
+        good = heard(&other, SPEECH, run, without) && heard(&other, SPEECH, run, without);
+        check(good && without[MURZICANU_WAITING] == run && without[MURZICANU_PUBLISHING] == run, "and without the gap they do");
+    }
+
+    /* A new chain, one in a short run and one in a long run: what they publish stays. */
+    int good = 1;
+    for (int frames = 0; frames <= 30; frames++) {
+        good = good && made(&chain, &limiter, 0xAA, frames) && murzicanu_chain_read(&chain, &first) == MURZICANU_DONE;
+        before = chain;
+        good = good && murzicanu_chain_gap(&chain) == MURZICANU_DONE &&
+               murzicanu_chain_read(&chain, &now) == MURZICANU_DONE && unchanged(&now, &first, sizeof now) &&
+               unchanged(&chain.limiter, &before.limiter, sizeof chain.limiter) &&
+               unchanged(&chain.controller.applier, &before.controller.applier, sizeof chain.controller.applier) &&
+               (frames > 0) == !unchanged(&chain, &before, sizeof chain);
+        other = chain;
+        good = good && murzicanu_chain_gap(&chain) == MURZICANU_DONE && unchanged(&chain, &other, sizeof chain);
+    }
+    check(good, "a gap after 0 to 30 speech frames moves no published figure, no limiter and no ramp, and a second one no byte");
+
+    /* The same service twice, once with gaps in its pauses, directly after a pause's frame. */
+    int count = 0;
+    good = murzicanu_chain_new(&chain, &settings, 12, SAMPLES) == MURZICANU_DONE &&
+           murzicanu_chain_new(&other, &settings, 12, SAMPLES) == MURZICANU_DONE &&
+           murzicanu_chain_gap(&chain) == MURZICANU_DONE;
+    for (int k = 0; k < 400; k++) {
+        int speaks = k % 100 < 70;
+        const murzicanu_figures *figures = speaks ? &SPEECH : &pause;
+        float frame[LENGTH], sound[LENGTH];
+        murzicanu_answer answer, same;
+        tone(frame, k);
+        memcpy(sound, frame, sizeof sound);
+        good = good &&
+               murzicanu_chain_step(&chain, figures, frame, LENGTH, CHANNELS, SAMPLES, &answer) == MURZICANU_DONE &&
+               murzicanu_chain_step(&other, figures, sound, LENGTH, CHANNELS, SAMPLES, &same) == MURZICANU_DONE;
+        for (int i = 0; !speaks && i < 1 + k % 3; i++, count++)
+            good = good && murzicanu_chain_gap(&chain) == MURZICANU_DONE;
+        good = good && unchanged(frame, sound, sizeof frame) && unchanged(&answer, &same, sizeof answer) &&
+               unchanged(&chain, &other, sizeof chain);
+    }
+    check(good && count > 200, "gaps in pauses change no sample, no answer and no byte of the chain");
+}
+
 /* The register MXCSR: how the processor rounds, and what it does with the smallest numbers. */
 enum { DEFAULT = 0x1F80, ROUND_DOWN = 0x3F80, ROUND_UP = 0x5F80, ROUND_TO_ZERO = 0x7F80, FTZ = 0x9F80, DAZ = 0x1FC0 };
 
@@ -378,8 +499,9 @@ static void floats(void) {
     int told = murzicanu_floats_ready() == 0;
     uint32_t read = murzicanu_chain_read(&chain, &now);
     uint32_t stepped = murzicanu_chain_step(&chain, &SPEECH, frame, LENGTH, CHANNELS, SAMPLES, &answer);
+    uint32_t marked = murzicanu_chain_gap(&chain);
     _mm_setcsr(DEFAULT);
-    check(good && told && read == MURZICANU_SETTING && stepped == MURZICANU_SETTING,
+    check(good && told && read == MURZICANU_SETTING && stepped == MURZICANU_SETTING && marked == MURZICANU_SETTING,
           "a chain just made is refused with 4 where the thread rounds up");
     check(murzicanu_chain_step(&chain, &SPEECH, frame, LENGTH, CHANNELS, SAMPLES, &answer) == MURZICANU_DONE,
           "and taken again where it rounds to nearest");
@@ -411,6 +533,8 @@ int main(int argc, char **argv) {
     refused();
     many();
     longest();
+    gaps_refused();
+    gaps();
     floats();
 
     murzicanu_settings settings = MURZICANU_USUAL_SETTINGS, wrong = settings;

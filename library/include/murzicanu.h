@@ -8,12 +8,12 @@
  * ends. Calls on different structs may run at the same time; calls on the same struct may not.
  *
  * Every function but murzicanu_version answers a number: MURZICANU_DONE, or why it refused. A refused step stores
- * nothing in the state or the frame, and its answer is all 0. A refused `new` makes the struct all 0, which every call
- * refuses, and a refused `read` tells 0.
+ * nothing in the state or the frame, and its answer is all 0. A refused gap stores nothing either. A refused `new` makes
+ * the struct all 0, which every call refuses, and a refused `read` tells 0.
  *
  * A state is tested at each call. One that fails is not used: a step answers MURZICANU_SHAPE where the shape is wrong or
- * the samples are not those that stand in the state, as in a struct of zeros, and otherwise MURZICANU_SETTING; a read
- * answers MURZICANU_SETTING. The test knows the range of each field and no more: a state that was damaged so that it
+ * the samples are not those that stand in the state, as in a struct of zeros, and otherwise MURZICANU_SETTING; a gap and
+ * a read answer MURZICANU_SETTING. The test knows the range of each field and no more: a state that was damaged so that it
  * still passes is used like any other, and what is proved holds of it.
  *
  * What a call owes of you is what C cannot check: pointers that are not null, are aligned for their type and point to
@@ -40,8 +40,9 @@ extern "C" {
 #endif
 
 /* The version of this header: of the functions and of the structs. murzicanu_version() tells that of the archive; where
- * the two differ, the structs may differ too, so compare them before the first call. */
-#define MURZICANU_VERSION 1u
+ * the two differ, the structs may differ too, so compare them before the first call. In version 1 there was no
+ * murzicanu_chain_gap. */
+#define MURZICANU_VERSION 2u
 
 /* What every other function answers. Where several apply, the first in the order 1, 4, 2, 3 is told. */
 #define MURZICANU_DONE 0u
@@ -91,7 +92,7 @@ typedef struct {
 #define MURZICANU_WAITING 1u
 #define MURZICANU_PUBLISHING 2u
 
-/* What a chain publishes, after any frame. */
+/* What a chain publishes, after any frame or gap. */
 typedef struct {
     float level;        /* of the speech, dBFS */
     float headroom;     /* dB */
@@ -250,8 +251,8 @@ static inline int murzicanu_floats_ready(void) {
 
 /* Makes a new chain for frames with so many samples a channel (10 ms: 480 at 48 kHz). The threshold, 1 to 3000, is how
  * many speech frames in a row make a reading: until a run has so many, what stood before stays published. A speech run of
- * fewer frames that a non-speech frame closes leaves no trace in what is published later. Refused with 1 or 4; the chain
- * is then all 0, and every call refuses it. */
+ * fewer frames that a non-speech frame or a gap closes leaves no trace in what is published later. Refused with 1 or 4;
+ * the chain is then all 0, and every call refuses it. */
 uint32_t murzicanu_chain_new(murzicanu_chain *chain, const murzicanu_settings *settings, uint32_t threshold,
                              size_t samples);
 
@@ -260,6 +261,21 @@ uint32_t murzicanu_chain_new(murzicanu_chain *chain, const murzicanu_settings *s
  * is all 0. */
 uint32_t murzicanu_chain_step(murzicanu_chain *chain, const murzicanu_figures *figures, float *frame, size_t length,
                               size_t channels, size_t samples, murzicanu_answer *answer);
+
+/* Marks a gap: time has passed that the chain has not heard, so that the frames before it and after it are not adjacent.
+ * No frame tells the chain of it, so your box has to, before the next frame:
+ *
+ * - where a frame was lost;
+ * - where the meter was frozen, so that there are no figures of its own for a frame: drop the frame's sound too, or give
+ *   figures, and do not hand in the old ones;
+ * - after a refused frame, if time was lost by it. A refused frame alone ends no run: you may hand it in again, corrected.
+ *
+ * One call stands for any number of lost frames. It ends the run of speech as a non-speech frame does: a run shorter than
+ * the threshold is forgotten, any other is kept, and the next speech frame begins a new run. Before the gain may rise
+ * again, as many adjacent speech frames as the threshold says have to come. It has no sound and moves no gain: level,
+ * headroom and gain stay as they were published, and so does the confidence of a chain that murzicanu_chain_new made.
+ * Refused with 4; nothing is then stored in the chain. */
+uint32_t murzicanu_chain_gap(murzicanu_chain *chain);
 
 /* Reads what a chain publishes. Refused with 4, and then all is 0. */
 uint32_t murzicanu_chain_read(const murzicanu_chain *chain, murzicanu_published *published);

@@ -99,6 +99,11 @@ chainStepped k f frame channels samples =
       frame = cond (eqb reply done) (c .frame) frame;
     }
 
+-- a gap of the chain inside; it has neither figures nor sound, so it is refused for the state alone, and then the one that came in stays
+unfoldable pub chainGapped : KeptChain → NewChain
+unfolding refusal chainPasses chainOf keptChain Chaining.gap
+chainGapped k = record { reply = refusal true (chainPasses k) true true; chain = cond (chainPasses k) (keptChain (Chaining.gap (chainOf k) .chain)) k }
+
 -- what a chain publishes, with a number for the flag
 unfoldable pub keptPublished : ChainPublished → Published
 unfolding numberOf

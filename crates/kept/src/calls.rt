@@ -7,7 +7,7 @@ ghost use Rattle.units.specs.Replies.{done, refusal};
 ghost use Rattle.frames.specs.Shape.{isShape};
 ghost use Rattle.limiter.specs.Scale.{FullScale};
 ghost use Rattle.chain.specs.Answer.{said};
-ghost use Rattle.kept.specs.Calls.{limiterMade, limiterStepped, limiterRead, chainMade, keptAnswer, chainStepped, keptPublished, chainRead};
+ghost use Rattle.kept.specs.Calls.{limiterMade, limiterStepped, limiterRead, chainMade, keptAnswer, chainStepped, chainGapped, keptPublished, chainRead};
 use crate::states::KeptChain;
 use crate::states::KeptLimiter;
 use crate::states::number_of;
@@ -56,7 +56,8 @@ pub struct LevelRead {
     pub level: LinearS16,
 }
 
-// A reply's number, and a new chain: all 0 where it is refused.
+// A reply's number, and a chain: a new one, all 0 where it is refused; or the one that goes on after a gap, which is
+// the one that came in where it is refused.
 pub struct NewChain {
     pub reply: u32,
     pub chain: KeptChain,
@@ -228,6 +229,27 @@ pub fn take_frame(
         NextChain {
             reply: refuse_state(channels, samples, frame.len(), set),
             answer: answer_as_numbers(Answer::NonSpeech),
+            chain: kept,
+        }
+    }
+}
+
+// Marks a gap: frames were lost, so that those before it and after it are not adjacent. A state that fails its test is
+// refused with 4, and then nothing changes.
+pub fn mark_gap(kept: KeptChain) -> NewChain
+    ensures { λ r. ⌜ r ≡ chainGapped kept ⌝ }
+{
+    let chain = kept.chain();
+    let gapped = chain.gap();
+    if kept.is_sound() & (gapped.reply == DONE) {
+        let after = gapped.chain;
+        NewChain {
+            reply: DONE,
+            chain: KeptChain::of(after),
+        }
+    } else {
+        NewChain {
+            reply: SETTING,
             chain: kept,
         }
     }

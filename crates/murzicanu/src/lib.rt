@@ -1,17 +1,18 @@
 // The library that C and Rust link: the chain and the limiter over states that the caller owns and lends. Every
-// function but the first answers a reply's number, 0 where it is done; a refused step stores nothing in the state
-// or the frame. include/murzicanu.h declares them for C.
+// function but the first answers a reply's number, 0 where it is done; a refused step or gap stores nothing in the
+// state or the frame. include/murzicanu.h declares them for C.
 
 ghost use mathlib.Core.Path.{_≡_};
 ghost use Rattle.units.specs.Replies.{done};
 ghost use Rattle.limiter.specs.Scale.{FullScale};
 ghost use Rattle.kept.specs.Version.{version};
-ghost use Rattle.kept.specs.Calls.{limiterMade, limiterStepped, limiterRead, chainMade, chainStepped, chainRead};
+ghost use Rattle.kept.specs.Calls.{limiterMade, limiterStepped, limiterRead, chainMade, chainStepped, chainGapped, chainRead};
 use kept::calls::KeptAnswer;
 use kept::calls::Published;
 use kept::calls::limit_frame;
 use kept::calls::make_chain;
 use kept::calls::make_limiter;
+use kept::calls::mark_gap;
 use kept::calls::read_chain;
 use kept::calls::read_limiter;
 use kept::calls::take_frame;
@@ -23,7 +24,7 @@ use units::replies::DONE;
 use units::settings::Settings;
 
 // The version of the interface: of the functions below and of the structs that they are lent.
-const VERSION: u32 = 1;
+const VERSION: u32 = 2;
 
 // The version of the interface. A caller compares it with the version that its own declarations have.
 #[no_mangle]
@@ -76,6 +77,21 @@ pub extern "C" fn murzicanu_chain_step(
         *chain = next.chain;
     }
     next.reply
+}
+
+// Marks a gap: frames were lost, so that those before it and after it are not adjacent. It ends the run of speech, and
+// has no sound. A chain that fails its test is refused with 4, and then nothing is stored in it.
+#[no_mangle]
+pub extern "C" fn murzicanu_chain_gap(chain: &mut KeptChain) -> u32
+    ensures { λ r. ⌜ r ≡ chainGapped (now (chain .entry)) .reply ⌝ }
+    ensures { λ _. ⌜ now (chain .exit) ≡ chainGapped (now (chain .entry)) .chain ⌝ }
+{
+    let taken = *chain;
+    let gapped = mark_gap(taken);
+    if gapped.reply == DONE {
+        *chain = gapped.chain;
+    }
+    gapped.reply
 }
 
 // Reads what a chain publishes; a chain that fails its test is refused with 4, and then all is 0.

@@ -6,9 +6,9 @@
 //! is proved, among other things:
 //!
 //! - every sample that a chain or a limiter leaves lies between -32768 and 32767;
-//! - speech of fewer frames than the threshold that a non-speech frame closes leaves no trace in anything that is
-//!   published later;
-//! - a refused step changes nothing.
+//! - speech of fewer frames than the threshold that a non-speech frame or a gap closes leaves no trace in anything that
+//!   is published later;
+//! - a refused step or gap changes nothing.
 //!
 //! What the proof takes for granted of the processor is what Rust does too: floats round to nearest, and the smallest are
 //! not flushed to zero. A thread that was set otherwise is refused by `new`, and [`floats_ready`] asks at any time.
@@ -24,6 +24,8 @@
 //!     Answer::Waiting { missing } => println!("{missing} frames of speech are missing"),
 //!     Answer::Publishing { level, headroom } => println!("{level} dBFS, headroom {headroom} dB"),
 //! }
+//! // The next frame was lost, so what comes then is not adjacent to this one.
+//! chain.gap()?;
 //! # Ok::<(), murzicanu::Refusal>(())
 //! ```
 
@@ -41,7 +43,7 @@ pub use floats::floats_ready;
 pub const USUAL_THRESHOLD: u32 = 12;
 
 /// The version of the archive's interface that this crate is written for: of its functions and its structs.
-pub const VERSION: u32 = 1;
+pub const VERSION: u32 = 2;
 
 /// Why a call was refused. Nothing changed then. Where several of the first four apply, the first in the order `Shape`,
 /// `Setting`, `Figure`, `Sample` is told.
@@ -54,8 +56,8 @@ pub enum Refusal {
     Figure,
     /// A sample that is not a number, infinite or too large: beyond 65536 for a chain, 33554432 for a limiter.
     Sample,
-    /// A setting out of its range, or a threshold that is not 1 to 3000. From a step or a reading only in a thread that
-    /// does not compute floats as it should ([`floats_ready`]).
+    /// A setting out of its range, or a threshold that is not 1 to 3000. From a step, a gap or a reading only in a thread
+    /// that does not compute floats as it should ([`floats_ready`]).
     Setting,
     /// The archive that is linked has this version, and not [`VERSION`]. Told by `new`, which makes nothing then.
     Version(u32),
@@ -257,11 +259,34 @@ impl Chain {
         })
     }
 
+    /// Marks a gap: time has passed that the chain has not heard, so that the frames before it and after it are not
+    /// adjacent. No frame tells the chain of it, so the box has to, before the next frame:
+    ///
+    /// - where a frame was lost;
+    /// - where the meter was frozen, so that there are no figures of its own for a frame: drop the frame's sound too, or
+    ///   give figures, and do not hand in the old ones;
+    /// - after a refused frame, if time was lost by it. A refused frame alone ends no run: it may be handed in again,
+    ///   corrected.
+    ///
+    /// One call stands for any number of lost frames. It ends the run of speech as a non-speech frame does: a run shorter
+    /// than the threshold is forgotten, any other is kept, and the next speech frame begins a new run. Before the gain may
+    /// rise again, as many adjacent speech frames as the threshold says have to come. It has no sound and moves no gain:
+    /// what is [`published`](Chain::published) stays.
+    ///
+    /// # Errors
+    ///
+    /// None where [`floats_ready`]: a chain that was made passes its test after every frame and every gap. Where it is
+    /// refused, the chain is as it was.
+    pub fn gap(&mut self) -> Result<(), Refusal> {
+        // SAFETY: the reference is to a whole struct.
+        Refusal::of(unsafe { library::murzicanu_chain_gap(&mut self.state) })
+    }
+
     /// What the chain publishes now.
     ///
     /// # Errors
     ///
-    /// None where [`floats_ready`]: a chain that was made passes its test after every frame.
+    /// None where [`floats_ready`]: a chain that was made passes its test after every frame and every gap.
     pub fn published(&self) -> Result<Published, Refusal> {
         let mut now = library::Published::default();
         // SAFETY: as above.

@@ -169,6 +169,7 @@ extern "C" {
         samples: usize,
         answer: *mut Answer,
     ) -> u32;
+    pub fn murzicanu_chain_gap(chain: *mut Chain) -> u32;
     pub fn murzicanu_chain_read(chain: *const Chain, published: *mut Published) -> u32;
     pub fn murzicanu_limiter_new(limiter: *mut Limiter, samples: usize) -> u32;
     pub fn murzicanu_limiter_step(

@@ -41,7 +41,7 @@ fn file(variable: &str, example: &str) -> PathBuf {
 fn a_service_has_the_lines_that_are_due() {
     let strip = fs::read(file("MURZICANU_STRIP", "service.strip")).unwrap();
     let due = fs::read_to_string(file("MURZICANU_LINES", "service.lines")).unwrap();
-    // A strip of version 1 has its threshold in one byte, and one of version 2 in two.
+    // A strip of version 1 has its threshold in one byte, and one of version 2 in two; there a record of length 0 is a gap.
     let version = usize::from(strip[2]);
     assert!(version == 1 || version == 2);
     let (threshold, rest) = strip[3..].split_at(version);
@@ -55,33 +55,42 @@ fn a_service_has_the_lines_that_are_due() {
         noise: real(&rest[18..22]),
     };
     let mut chain = Chain::new(&settings, threshold, samples).unwrap();
-    let mut made = String::new();
-    for (k, record) in rest[22..].chunks_exact(22).enumerate() {
-        let figures = Figures {
-            probability: real(&record[2..6]),
-            rms: real(&record[6..10]),
-            peak: real(&record[10..14]),
-            noise: real(&record[14..18]),
-            envelope: real(&record[18..22]),
+    let (mut made, mut rest, mut number) = (String::new(), &rest[22..], 0);
+    while !rest.is_empty() {
+        let gap = version == 2 && rest.starts_with(&[0, 0]);
+        let (record, left) = rest.split_at(if gap { 2 } else { 22 });
+        let answer = if gap {
+            chain.gap().unwrap();
+            None
+        } else {
+            let figures = Figures {
+                probability: real(&record[2..6]),
+                rms: real(&record[6..10]),
+                peak: real(&record[10..14]),
+                noise: real(&record[14..18]),
+                envelope: real(&record[18..22]),
+            };
+            Some(chain.step(&figures, &mut vec![0.0; samples], 1).unwrap())
         };
-        let answer = chain.step(&figures, &mut vec![0.0; samples], 1).unwrap();
         let now = chain.published().unwrap();
         let kind = match answer {
-            Answer::NonSpeech => 'N',
-            Answer::Waiting { .. } => 'W',
-            Answer::Publishing { level, headroom } => {
+            None => 'G',
+            Some(Answer::NonSpeech) => 'N',
+            Some(Answer::Waiting { .. }) => 'W',
+            Some(Answer::Publishing { level, headroom }) => {
                 assert_eq!((level, headroom), (now.level, now.headroom));
                 'P'
             }
         };
+        number += 1;
         made += &format!(
-            "{} {kind} {} {} {} {}\n",
-            k + 1,
+            "{number} {kind} {} {} {} {}\n",
             hundredths(now.level),
             hundredths(now.headroom),
             hundredths(now.gain),
             u8::from(now.confident)
         );
+        rest = left;
     }
     assert_eq!(made, due);
 }
@@ -150,6 +159,67 @@ fn a_threshold_of_3000_waits_for_thirty_seconds_of_speech() {
         assert_eq!(closed.published().unwrap(), never.published().unwrap());
     }
     assert!(closed.published().unwrap().confident);
+}
+
+#[test]
+fn a_gap_ends_the_run_of_speech() {
+    for threshold in [2, 12, 200] {
+        let mut chain = Chain::new(&Settings::default(), threshold, 40).unwrap();
+        let (before, mut other) = (chain.published().unwrap(), chain.clone());
+        let run = threshold as usize - 1;
+        // Two runs that both miss one frame: each frame of the second waits like that of the first.
+        let first = heard(&mut chain, &SPEECH, run);
+        chain.gap().unwrap();
+        assert_eq!(heard(&mut chain, &SPEECH, run), first);
+        assert_eq!(first, (1..threshold).rev().map(|missing| Answer::Waiting { missing }).collect::<Vec<_>>());
+        assert_eq!(chain.published().unwrap(), before);
+        // Without the gap they are one run, and its second half publishes.
+        assert_eq!(heard(&mut other, &SPEECH, run), first);
+        assert!(heard(&mut other, &SPEECH, run).iter().all(|answer| matches!(answer, Answer::Publishing { .. })));
+        assert_ne!(other.published().unwrap(), before);
+    }
+}
+
+#[test]
+fn a_gap_moves_no_published_figure_and_a_run_that_is_long_enough_is_kept() {
+    let mut chain = Chain::new(&Settings::default(), 12, 40).unwrap();
+    for frames in 0..40 {
+        let mut other = chain.clone();
+        let before = chain.published().unwrap();
+        other.gap().unwrap();
+        assert_eq!(other.published().unwrap(), before, "after {frames} frames");
+        // As a gap ends the run, so does a pause; and what comes then is heard alike but for the pause's own frame.
+        let mut pause = chain.clone();
+        assert_eq!(heard(&mut pause, &Figures { probability: 0.0, ..SPEECH }, 1), [Answer::NonSpeech]);
+        other.gap().unwrap();
+        assert_eq!(heard(&mut other, &PAUSE, 1), [Answer::NonSpeech]);
+        for _ in 0..30 {
+            assert_eq!(heard(&mut other, &SPEECH, 1), heard(&mut pause, &SPEECH, 1));
+            assert_eq!(other.published().unwrap(), pause.published().unwrap());
+        }
+        heard(&mut chain, &SPEECH, 1);
+    }
+    assert!(chain.published().unwrap().confident);
+}
+
+#[test]
+fn gaps_in_pauses_change_nothing() {
+    let run = |gaps: usize| {
+        let mut chain = Chain::new(&Settings::default(), USUAL_THRESHOLD, 160).unwrap();
+        let mut heard = Vec::new();
+        for k in 0..400 {
+            let speaks = k % 100 < 70;
+            let mut frame = tone(if speaks { 900.0 } else { 2.0 }, 160, 2, k);
+            let answer = chain.step(if speaks { &SPEECH } else { &PAUSE }, &mut frame, 2).unwrap();
+            for _ in 0..if speaks { 0 } else { gaps } {
+                chain.gap().unwrap();
+            }
+            heard.push((bits(&frame), answer, chain.published().unwrap()));
+        }
+        heard
+    };
+    let without = run(0);
+    assert!(run(1) == without && run(3) == without);
 }
 
 #[test]
@@ -245,6 +315,17 @@ fn step(chain: &mut library::Chain, figures: &Figures, frame: &mut [f32], channe
         assert_eq!(bytes(chain), bytes(&before));
         assert_eq!(bits(frame), sound);
         assert!(bytes(&answer).iter().all(|b| *b == 0));
+    }
+    reply
+}
+
+/// A gap of the chain. Where it is refused, no byte of the chain may change.
+fn gap(chain: &mut library::Chain) -> u32 {
+    let before = *chain;
+    // SAFETY: the reference is to a whole struct.
+    let reply = unsafe { library::murzicanu_chain_gap(chain) };
+    if reply != 0 {
+        assert_eq!(bytes(chain), bytes(&before));
     }
     reply
 }
@@ -393,6 +474,7 @@ fn each_kind_of_refusal_changes_no_byte() {
         let mut other = chain;
         bytes_mut(&mut other)[place] = byte;
         assert_eq!(step(&mut other, &SPEECH, &mut frame, CHANNELS, SAMPLES), 4, "byte {place}");
+        assert_eq!(gap(&mut other), 4, "byte {place}");
         assert_eq!(read_chain(&other, 0xAA), (4, vec![0; 16]));
     }
     let mut other = limiter;
@@ -403,6 +485,8 @@ fn each_kind_of_refusal_changes_no_byte() {
     assert_eq!(step(&mut filled(0), &SPEECH, &mut frame, CHANNELS, SAMPLES), 1);
     assert_eq!(step(&mut filled(0xAA), &SPEECH, &mut frame, CHANNELS, SAMPLES), 1);
     assert_eq!(limit(&mut filled(0), &mut frame, CHANNELS, SAMPLES), 1);
+    assert!((0..=255).all(|pattern| gap(&mut filled(pattern)) == 4));
+    assert_eq!(gap(&mut chain), 0);
     assert_eq!(read_chain(&filled(0), 0xAA).0, 4);
     assert_eq!(read_limiter(&filled(0), 0xAA).0, 4);
 }
@@ -455,6 +539,7 @@ fn ten_thousand_refused_calls_change_no_byte() {
         }
         let (state, alone) = if kind == 4 { (&mut damaged, &mut cracked) } else { (&mut chain, &mut limiter) };
         assert_eq!(step(state, &figures, &mut frame[..length], channels, samples), due);
+        assert!(kind != 4 || gap(state) == 4);
         seen[due as usize] += 1;
         calls += 1;
         if kind != 2 {
@@ -465,4 +550,180 @@ fn ten_thousand_refused_calls_change_no_byte() {
     }
     assert!(seen[1..].iter().all(|n| *n > 1000), "{seen:?}");
     assert_eq!((bytes(&chain), bytes(&limiter), frame), (bytes(&first), bytes(&second), sound));
+}
+
+impl Drawn {
+    /// One of so many numbers, from 0.
+    fn below(&mut self, many: usize) -> usize {
+        self.next() % many
+    }
+
+    fn between(&mut self, low: f32, high: f32) -> f32 {
+        low + (high - low) * (self.below(65537) as f32 / 65536.0)
+    }
+
+    /// A probability that is speech, or none.
+    fn probability(&mut self, speech: bool) -> f32 {
+        let ends = if speech { [0.95, 1.0] } else { [0.0, 0.949_999_9] };
+        match self.below(4) {
+            0 => ends[self.below(2)],
+            _ => self.between(ends[0], ends[1]),
+        }
+    }
+}
+
+/// An event of a history: a frame of a random service, or a gap.
+#[derive(Clone)]
+enum Event {
+    Frame(Figures, Vec<f32>),
+    Gap,
+}
+
+/// What a random history is made of, and how often it came.
+#[derive(Default, Debug)]
+struct Counts {
+    events: usize,
+    gaps: usize,
+    long_runs: usize,
+    closed_by_a_frame: usize,
+    closed_by_a_gap: usize,
+    refused: usize,
+    compared: usize,
+}
+
+/// A random history and its twin, in which the speech of short closed runs was changed; and after which events a changed run
+/// is open.
+fn twins(random: &mut Drawn, threshold: usize, length: usize, counts: &mut Counts) -> (Vec<Event>, Vec<Event>, Vec<bool>) {
+    let (mut first, mut second, mut open) = (Vec::new(), Vec::new(), Vec::new());
+    let frame = |random: &mut Drawn, speech: bool| {
+        let (rms, loudness) = (random.between(-90.0, 0.0), random.between(0.0, 65536.0));
+        let figures = Figures {
+            probability: random.probability(speech),
+            rms,
+            peak: rms + random.between(0.0, 20.0),
+            noise: random.between(-95.0, -20.0),
+            envelope: random.between(-90.0, 20.0),
+        };
+        (figures, (0..length).map(|_| random.between(-loudness, loudness)).collect::<Vec<_>>())
+    };
+    while first.len() < 250 {
+        // A run of speech, and what closes it: a frame or a gap, or some of them.
+        let short = random.below(3) > 0;
+        let run = if short { 1 + random.below(threshold - 1) } else { threshold + random.below(threshold + 5) };
+        let closers: Vec<bool> = (0..1 + random.below(3)).map(|_| random.below(2) == 0).collect();
+        // Of a short run all frames are changed, some, or none.
+        let (every, mut touched) = (random.below(3), false);
+        for _ in 0..run {
+            let (figures, sound) = frame(random, true);
+            let mut other = figures;
+            if short && (every == 0 || (every == 1 && random.below(2) == 0)) {
+                touched = true;
+                other.probability = random.probability(false);
+                other.rms = random.between(-149.0, 49.0);
+                other.peak = random.between(-150.0, 50.0);
+            }
+            first.push(Event::Frame(figures, sound.clone()));
+            second.push(Event::Frame(other, sound));
+            open.push(touched);
+        }
+        counts.long_runs += usize::from(!short);
+        counts.closed_by_a_gap += usize::from(touched && closers[0]);
+        counts.closed_by_a_frame += usize::from(touched && !closers[0]);
+        for gap in closers {
+            let event = if gap {
+                counts.gaps += 1;
+                Event::Gap
+            } else {
+                let (figures, sound) = frame(random, false);
+                Event::Frame(figures, sound)
+            };
+            first.push(event.clone());
+            second.push(event);
+            open.push(false);
+        }
+    }
+    (first, second, open)
+}
+
+/// A frame that is refused, for its shape, its figures or its samples: it is not counted, and ends no run.
+fn refuse(chain: &mut library::Chain, random: &mut Drawn, channels: usize, samples: usize) -> usize {
+    let many = random.below(4) / 2;
+    for _ in 0..many {
+        let mut sound = vec![100.0; channels * samples];
+        let figures = Figures { probability: random.probability(random.0 % 2 == 0), ..SPEECH };
+        let due = 1 + random.below(3) as u32;
+        let reply = match due {
+            1 => step(chain, &figures, &mut sound, channels + 1, samples),
+            2 => step(chain, &Figures { rms: f32::NAN, ..figures }, &mut sound, channels, samples),
+            _ => {
+                sound[random.below(channels * samples)] = 65537.0;
+                step(chain, &figures, &mut sound, channels, samples)
+            }
+        };
+        assert_eq!(reply, due);
+    }
+    many
+}
+
+/// What comes out at an event: the bits of the frame, and what is published.
+fn happens(chain: &mut library::Chain, event: &Event, channels: usize, samples: usize) -> (Vec<u32>, Vec<u8>) {
+    let mut sound = Vec::new();
+    match event {
+        Event::Gap => assert_eq!(gap(chain), 0),
+        Event::Frame(figures, frame) => {
+            sound.clone_from(frame);
+            assert_eq!(step(chain, figures, &mut sound, channels, samples), 0);
+            assert!(sound.iter().all(|x| (-32768.0..=32767.0).contains(x)));
+        }
+    }
+    let (reply, now) = read_chain(chain, 0xAA);
+    assert_eq!(reply, 0);
+    (bits(&sound), now)
+}
+
+#[test]
+fn random_histories_with_gaps_and_their_twins_come_out_alike() {
+    let (mut random, mut counts, mut published, mut told) = (Drawn(2463534242), Counts::default(), Vec::new(), 0);
+    for round in 0..40 {
+        let threshold = [2, 3, 5, 12, 40][round % 5];
+        let (channels, samples) = (1 + random.below(3), [40, 60, 160][random.below(3)]);
+        let settings = Settings {
+            headroom: random.between(0.0, 20.0),
+            largest_gain: random.between(5.0, 50.0),
+            initial_gain: random.between(0.0, 40.0),
+            change: random.between(0.5, 100.0),
+            noise: random.between(-80.0, 0.0),
+        };
+        let (first, second, open) = twins(&mut random, threshold, channels * samples, &mut counts);
+        let made = |pattern| {
+            let (reply, chain) = new_chain(pattern, &settings, threshold as u32, samples);
+            assert_eq!(reply, 0);
+            chain
+        };
+        let (mut a, mut b) = (made(0xAA), made(0x55));
+        for (k, (event, twin)) in first.iter().zip(&second).enumerate() {
+            counts.refused += refuse(&mut a, &mut random, channels, samples) + refuse(&mut b, &mut random, channels, samples);
+            let heard = happens(&mut a, event, channels, samples);
+            assert!(heard == happens(&mut b, twin, channels, samples), "round {round}, event {k} comes out otherwise");
+            if !open[k] {
+                assert_eq!(bytes(&a), bytes(&b), "round {round}, event {k} leaves another chain");
+                counts.compared += 1;
+            }
+            counts.events += 1;
+            published.push(heard.1);
+        }
+        // The same two histories without their gaps: runs that a gap alone kept apart are one, and a changed one may be told.
+        let (mut a, mut b) = (made(0xAA), made(0x55));
+        told += usize::from(first.iter().zip(&second).any(|(event, twin)| {
+            !matches!(event, Event::Gap)
+                && happens(&mut a, event, channels, samples) != happens(&mut b, twin, channels, samples)
+        }));
+    }
+    published.sort();
+    published.dedup();
+    assert!(counts.events > 10_000 && counts.refused > 5_000 && counts.compared > 5_000, "{counts:?}");
+    assert!(counts.gaps > 500 && counts.long_runs > 100, "{counts:?}");
+    assert!(counts.closed_by_a_frame > 100 && counts.closed_by_a_gap > 100, "{counts:?}");
+    // The histories say much, and the gaps of most of them are needed.
+    assert!(published.len() > 1_000 && told > 20, "{} published, {told} told", published.len());
 }
