@@ -101,7 +101,7 @@ records "a file that is cut before its samples" "" "$cut 9600 bytes of its sampl
 python -c 'import math, struct, sys
 sys.stdout.buffer.write(b"".join(struct.pack("<h", round(16384 * math.sin(math.pi * i / 24)) if 480 <= i < 960 else 0) for i in range(1060)))' |
     with_head 2120 >"$room/tone.wav"
-head_and() { printf 'head threshold 12 samples 480\n# probability rms peak noise envelope\n'; cat; }
+head_and() { printf 'head version 1 threshold 12 samples 480\n# probability rms peak noise envelope\n'; cat; }
 head_and >"$room/due" <<'LINES'
 0.05 -90.00 -90.00 -90.00 -90.00
 0.95 -9.03 -6.02 -90.00 -6.02
@@ -111,10 +111,13 @@ tools/meter <"$room/tone.wav" >"$room/got" 2>"$room/err"
 same_file "meter: silence, a tone, and a short frame of silence" "$room/due" "$room/got"
 same "meter: how much is speech is told at the end" "meter: 1 of 3 frames are speech, 0.01 s of 0.03 s" "$(cat "$room/err")"
 same "meter: a level above which it is speech, noise and envelope that are held, a threshold" \
-    "head threshold 7 samples 480 0.05 -90.00 -90.00 -70.00 -30.00 0.05 -9.03 -6.02 -70.00 -30.00" \
+    "head version 1 threshold 7 samples 480 0.05 -90.00 -90.00 -70.00 -30.00 0.05 -9.03 -6.02 -70.00 -30.00" \
     "$(tools/meter --speech-above -9 --noise=-70 --envelope -30 --threshold 7 <"$room/tone.wav" 2>/dev/null | grep -v '^#' | head -n 3 | paste -sd' ')"
-# The strip that is made of it: of version 1 with a threshold of 1 to 200, and of version 2 with more.
+# The strip that is made of it: of version 1 with a threshold of 1 to 200, and of version 2 with more, as the head says.
 for both in 1:00180101 200:001801c8 201:00190200c9 3000:0019020bb8; do
+    version=$([ "${both%:*}" -le 200 ] && echo 1 || echo 2)
+    same "meter: the head with --threshold ${both%:*} says version $version" "head version $version threshold ${both%:*} samples 480" \
+        "$(tools/meter --threshold "${both%:*}" <"$room/tone.wav" 2>/dev/null | head -n 1)"
     due=${both#*:}01e040a00000424800004170000040c00000c2480000
     strip=$(tools/meter --threshold "${both%:*}" <"$room/tone.wav" 2>/dev/null | tools/strip-maker to-strip | od -An -v -tx1 | tr -d ' \n')
     same "meter: the head of the strip with --threshold ${both%:*}, and the bytes behind it" "$due 66" "${strip::${#due}} $(((${#strip} - ${#due}) / 2))"

@@ -110,14 +110,90 @@ for threshold in 00 c9 ff; do
     head_bytes "version 1 with the threshold $threshold" 4 "0018 01 $threshold 01e0 $usual $reading"
 done
 head_bytes "version 2 with a negative zero" 4 "0019 02 000c 01e0 80000000 ${usual:8} $reading"
-# Records are the same in both versions: 22 bytes, and a length of 0 is none.
+# Records of figures are the same in both versions, and have 22 bytes.
 record_bytes() { # NAME REPLY DIGITS
     refused "version 2: $1" "record 2 is refused with $2: ${means[$2]}" to_lines < <(hex "0019 02 0bb8 01e0 $usual $reading" "$3")
 }
-record_bytes "a record of length 0" 6 "0000 $reading"
 record_bytes "a record of one byte" 5 "00"
+record_bytes "a record of the length 1" 6 "0001 $reading"
 record_bytes "a record that is cut" 5 "${reading::42}"
 record_bytes "a record whose probability is above 1" 2 "0014 3f800001 ${reading:12}"
+
+# Gaps. A line `gap` is the two bytes of a length of 0, wherever it stands, and makes version 2 where no other is asked for. A file
+# and a pipe give the same bytes, and the bytes say the lines again.
+as_lines() { # ENTRIES: r is a record, g a gap
+    for ((i = 0; i < ${#1}; i++)); do
+        if [ "${1:i:1}" = g ]; then echo gap; else echo "1 -40 0 -90 -90"; fi
+    done
+}
+as_digits() { # ENTRIES
+    local all=${1//r/$reading}
+    echo "${all//g/0000}"
+}
+with_gaps() { # WORDS ENTRIES HEAD [WORDS-THAT-ARE-SHOWN]
+    hex "$3" 01e0 $usual "$(as_digits "$2")" >"$room/due"
+    { echo "head $1 samples 480" && as_lines "$2"; } >"$room/lines"
+    to_strip <"$room/lines" >"$room/strip"
+    same_file "strip-maker: '$1' and $2, from a file" "$room/due" "$room/strip"
+    cat "$room/lines" | to_strip >"$room/strip"
+    same_file "strip-maker: '$1' and $2, through a pipe" "$room/due" "$room/strip"
+    same "strip-maker: and they say '${4-$1}' and $2 again" \
+        "head ${4-$1} samples 480 $settings
+# probability rms peak noise envelope
+$(as_lines "$2")" "$(to_lines <"$room/due")"
+    to_lines <"$room/due" | to_strip >"$room/strip"
+    same_file "strip-maker: and these lines make the bytes" "$room/due" "$room/strip"
+}
+for entries in g gr rg rgr gg ggrr rrgg rggrgrg; do with_gaps "threshold 12" $entries "0019 02 000c"; done
+with_gaps "threshold 1" rgr "0019 02 0001"
+with_gaps "threshold 200" rgr "0019 02 00c8"
+with_gaps "threshold 201" rgr "0019 02 00c9"
+with_gaps "threshold 3000" rgr "0019 02 0bb8"
+# A gap says the version by itself: it is shown only where nothing else says it.
+with_gaps "version 2 threshold 12" rgr "0019 02 000c" "threshold 12"
+with_gaps "version 2 threshold 12" rr "0019 02 000c"
+with_gaps "version 2 threshold 201" rr "0019 02 00c9" "threshold 201"
+with_gaps "threshold 12" rr "0018 01 0c"
+with_gaps "version 1 threshold 12" rr "0018 01 0c" "threshold 12"
+# What a line with a gap may look like.
+hex "0019 02 000c 01e0 $usual $reading 0000 $reading" >"$room/due"
+for line in 'gap\n' '  gap \t\n' 'gap\r\n' 'gap # the meter was off\n' 'gap#\n' '\n# a note\ngap\n\n'; do
+    printf "head threshold 12 samples 480\n1 -40 0 -90 -90\n${line}1 -40 0 -90 -90" | to_strip >"$room/strip"
+    same_file "strip-maker: a gap typed as '$line'" "$room/due" "$room/strip"
+done
+hex "0019 02 000c 01e0 $usual $reading 0000" >"$room/due"
+printf 'head threshold 12 samples 480\n1 -40 0 -90 -90\ngap' >"$room/lines"
+to_strip <"$room/lines" >"$room/strip"
+same_file "strip-maker: a gap that nothing ends, from a file" "$room/due" "$room/strip"
+cat "$room/lines" | to_strip >"$room/strip"
+same_file "strip-maker: a gap that nothing ends, through a pipe" "$room/due" "$room/strip"
+# A gap where version 1 is asked for, and what is no gap, by its line: from a file and through a pipe.
+no_gap() { # LINE MESSAGE LINES
+    printf "$3" >"$room/lines"
+    refused "$2, from a file" "line $1: $2" to_strip <"$room/lines"
+    refused "$2, through a pipe" "line $1: $2" to_strip < <(cat "$room/lines")
+}
+no_gap 3 "version 1 cannot say a gap" 'head version 1 threshold 12 samples 480\n1 -40 0 -90 -90\ngap\n'
+no_gap 2 "version 1 cannot say a gap" 'head threshold 12 samples 480 version 1\ngap\n'
+no_gap 1 "the first line is the head, for example: head threshold 12 samples 480" 'gap\nhead threshold 12 samples 480\n'
+no_gap 2 "a gap stands alone on its line" 'head threshold 12 samples 480\ngap gap\n'
+no_gap 2 "a gap stands alone on its line" 'head threshold 12 samples 480\ngap 1 -40 0 -90 -90\n'
+no_gap 2 "a gap stands alone on its line" 'head threshold 12 samples 480\ngap,\n'
+no_gap 2 "a record has five figures, this line has 1" 'head threshold 12 samples 480\nGAP\n'
+no_gap 2 "a record has five figures, this line has 1" 'head threshold 12 samples 480\ngaps\n'
+no_gap 2 "a record has five figures, this line has 6" 'head threshold 12 samples 480\n1 -40 0 -90 -90 gap\n'
+# Where the version is not known yet nothing is written of a wrong line, nor of those before it.
+no_gap 3 "the peak 70 is not from -150 to 50" 'head threshold 12 samples 480\n1 -40 0 -90 -90\n1 -40 70 -90 -90\ngap\n'
+# Strips: a gap is no record of version 1, and one that is cut is none of version 2.
+strip_bytes() { # NAME RECORD REPLY DIGITS
+    refused "$1" "record $2 is refused with $3: ${means[$3]}" to_lines < <(hex "$4")
+}
+strip_bytes "a gap in version 1" 2 6 "0018 01 0c 01e0 $usual $reading 0000 $reading"
+strip_bytes "a gap in version 1, as its only record" 1 6 "0018 01 0c 01e0 $usual 0000"
+strip_bytes "a gap that is cut" 3 5 "0019 02 000c 01e0 $usual $reading 0000 00"
+strip_bytes "a wrong record behind gaps" 5 2 "0019 02 000c 01e0 $usual 0000 $reading 0000 0000 0014 3f800001 ${reading:12}"
+strip_bytes "a cut record behind a gap" 2 5 "0019 02 000c 01e0 $usual 0000 ${reading::42}"
+strip_bytes "figures whose length is left out behind a gap" 2 6 "0019 02 000c 01e0 $usual 0000 ${reading:4}"
 
 # Any figures: bits by chance, and whatever of them is accepted.
 python3 - >"$room/any" <<'END_OF_PYTHON'
@@ -233,7 +309,34 @@ for words in "" "to-tape" "to-strip more"; do
         "$(tools/strip-maker $words </dev/null 2>"$room/err"; echo "$? $(head -n 1 "$room/err")")"
 done
 
-# As the lines come: what they say is written at once, and a wrong line takes nothing of it back.
+# A long strip, of more than is kept in memory: the version is known at its end, or by a gap in it.
+long() { # ENDING
+    echo "head threshold 12 samples 480" && yes "1 -40 0 -90 -90" | head -n 48000 && printf "$1"
+}
+began() { echo "$(od -An -tx1 -N 3 "$1" | tr -d ' ') $(wc -c <"$1")"; } # STRIP: its first bytes, and how many it has
+for both in "001801 1056026 " "001902 1056051 gap\n1 -40 0 -90 -90\n"; do
+    ending=${both#* * }
+    long "$ending" >"$room/lines"
+    to_strip <"$room/lines" >"$room/strip"
+    cat "$room/lines" | to_strip >"$room/piped"
+    same "strip-maker: 48000 records and '$ending': the version, and so many bytes" "${both% "$ending"}" "$(began "$room/strip")"
+    same_file "strip-maker: 48000 records and '$ending': through a pipe" "$room/strip" "$room/piped"
+    to_lines <"$room/strip" | sed 1,2d | cmp - <(sed 1d "$room/lines") >"$room/apart" 2>&1
+    same "strip-maker: 48000 records and '$ending': the lines again" "" "$(cat "$room/apart")"
+done
+long "1 -40 70 -90 -90\n" >"$room/lines"
+refused "a wrong line behind 48000, from a file" "line 48002: the peak 70 is not from -150 to 50" to_strip <"$room/lines"
+refused "a wrong line behind 48000, through a pipe" "line 48002: the peak 70 is not from -150 to 50" to_strip < <(cat "$room/lines")
+# A file is read from where it stands, and to its end.
+{ echo "none of its lines" && long gap; } >"$room/lines"
+{ read -r _ && to_strip >"$room/strip" && wc -c >"$room/left"; } <"$room/lines"
+same "strip-maker: a file whose first line was read before" "001902 1056029, 0 left" "$(began "$room/strip"), $(cat "$room/left") left"
+# A temporary file that has no room.
+long "" | (ulimit -f 500 && to_strip 2>"$room/err") | cat >"$room/strip"
+same "strip-maker: a temporary file that gets too large" "1 0 the temporary file: File too large; with a version in the head there is none" \
+    "${PIPESTATUS[1]} $(wc -c <"$room/strip") $(cat "$room/err")"
+
+# As the lines come: what they say is written at once, where the head has the version, and a wrong line takes nothing of it back.
 mkfifo "$room/in"
 to_strip <"$room/in" >"$room/strip" 2>"$room/err" &
 exec 4>"$room/in"
@@ -244,7 +347,7 @@ written() { # BYTES: how many there are, once there are so many, or after ten se
     done
     wc -c <"$room/strip"
 }
-lines '1 -10 -5 -90 -90\n1 -10' >&4
+printf 'head version 1 threshold 2 samples 480\n1 -10 -5 -90 -90\n1 -10' >&4
 same "strip-maker: a head and a record are written as soon as they came" 48 "$(written 48)"
 printf ' -5 -90 -90\n' >&4
 same "strip-maker: a record that comes in two pieces" 70 "$(written 70)"
@@ -252,6 +355,41 @@ printf '1 -10 70 -90 -90\n' >&4
 exec 4>&-
 wait $!
 same "strip-maker: a wrong line after that" "1 70 line 4: the peak 70 is not from -150 to 50" "$? $(written 70) $(cat "$room/err")"
+# A threshold above 200 says the version too; and where nothing says it the first gap does, up to which the strip is kept.
+to_strip <"$room/in" >"$room/strip" 2>"$room/err" &
+exec 4>"$room/in"
+printf 'head threshold 201 samples 480\n' >&4
+same "strip-maker: a head with a threshold of 201 is written as soon as it came" 27 "$(written 27)"
+printf 'gap\n' >&4
+same "strip-maker: and so is a gap" 29 "$(written 29)"
+exec 4>&-
+wait $!
+same "strip-maker: and it ends well" "0 29 " "$? $(written 29) $(cat "$room/err")"
+mkdir "$room/tmp"
+TMPDIR=$room/tmp tools/strip-maker to-strip <"$room/in" >"$room/strip" 2>"$room/err" &
+maker=$!
+exec 4>"$room/in"
+long "" >&4
+kept() { find /proc/$maker/fd -lname "$room/tmp/*"; } # the temporary files that it has open
+for ((i = 0; i < 200; i++)); do
+    [ -z "$(kept)" ] || break
+    sleep 0.05
+done
+same "strip-maker: without a version the strip is kept in a file that has no name, and nothing is written" "1 kept, 0 there, 0 bytes" \
+    "$(kept | wc -l) kept, $(ls "$room/tmp" | wc -l) there, $(wc -c <"$room/strip") bytes"
+printf 'gap\n' >&4
+same "strip-maker: with the first gap all of it is written" 1056029 "$(written 1056029)"
+printf '1 -40 0 -90 -90\n' >&4
+same "strip-maker: and from then on each record as it comes" 1056051 "$(written 1056051)"
+same "strip-maker: and nothing is kept" 0 "$(kept | wc -l)"
+exec 4>&-
+wait $maker
+same "strip-maker: and it ends well" "0 1056051 " "$? $(written 1056051) $(cat "$room/err")"
+# A file that changes between its two readings. The second one waits for a reader that is slow.
+long "" >"$room/lines"
+{ to_strip <"$room/lines" 2>"$room/err"; echo $? >"$room/status"; } | { head -c 1000 >"$room/strip"; echo gap >>"$room/lines"; cat >>"$room/strip"; }
+same "strip-maker: a file to which a gap is added while it is read" "1 001801 standard input: it changed while it was read" \
+    "$(cat "$room/status") $(od -An -tx1 -N 3 "$room/strip" | tr -d ' ') $(cat "$room/err")"
 refused "bytes that are no lines" "line 1: it has more than 65536 bytes" to_strip < <(head -c 200000 /dev/zero)
 
 # What goes wrong around it: one line, and status 1.
@@ -271,5 +409,5 @@ for way in to-strip to-lines; do
     told "$way without standard input" "standard input: Bad file descriptor" tools/strip-maker $way <&-
     told "$way of a folder" "standard input: Is a directory" tools/strip-maker $way <.
 done
-{ lines ''; yes '1 -10 -5 -90 -90'; } 2>/dev/null | to_strip 2>"$room/err" | head -c 70 >"$room/strip"
+{ echo "head version 1 threshold 2 samples 480"; yes '1 -10 -5 -90 -90'; } 2>/dev/null | to_strip 2>"$room/err" | head -c 70 >"$room/strip"
 same "strip-maker: a reader that goes away" "1 70 " "${PIPESTATUS[1]} $(wc -c <"$room/strip") $(cat "$room/err")"
