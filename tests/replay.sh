@@ -123,6 +123,32 @@ same "replay: the paper's five records are N, W, N, W and P, and the cough moves
         record 3f800000 c2200000 00000000
     } | replay | sed 1d | cut -d' ' -f3,7,10 | sed 's/^0000000//; s/^2 \([^ ]*\) .*/2 \1/; s/.*/[&]/' | paste -sd' ')"
 
+# Gaps. With a T of 2 a frame of speech on either side of one is no reading.
+same "replay: speech, a gap and two frames of speech, with a T of 2 (reply, level, count)" \
+    "[00000000 c2200000 00000001] [00000000 c2200000 00000000] [00000000 c2200000 00000001] [00000000 c1d55555 00000002]" \
+    "$({ echo "speech.new $usual 00000002"; printf 'speech.%s\n' 'update c1200000 3f800000' gap 'update c1a00000 3f800000' 'update c1a00000 3f800000'; } | replay | sed 1d | cut -d' ' -f1,15,17 | sed 's/.*/[&]/' | paste -sd' ')"
+same "replay: the same of the headroom: the count" "00000001 00000000 00000001 00000002" \
+    "$({ echo protector.new 41a00000 00000002; printf 'protector.%s\n' 'analyze 3f800000 c0a00000 c1f00000' gap 'analyze 3f800000 c0a00000 c1f00000' 'analyze 3f800000 c0a00000 c1f00000'; } | replay | sed 1d | cut -d' ' -f4 | paste -sd' ')"
+one_frame() { known 1 480; }
+same "replay: the controller waits anew behind a gap, and nothing else of it moves" "00000001 00000002 00000001 yes" \
+    "$({ echo "controller.new $usual 00000002"; one_frame; echo controller.gap; one_frame; } | replay | sed 1d | cut -d' ' -f1-15 >"$room/gap"
+    cut -d' ' -f14 "$room/gap" | paste -sd' ') $(cmp -s <(sed -n 1p "$room/gap" | cut -d' ' -f1-13,15) <(sed -n 2p "$room/gap" | cut -d' ' -f1-13,15) && echo yes)"
+same "replay: a chain's gap between a cough and a reading: what stands is published, and the reading counts with its second frame" \
+    "[1 c2200000 41a00000 00000000 41700000] [0 c2200000 41a00000 00000000 41700000] [1 c2200000 41a00000 00000000 41700000] [2 c2200000]" \
+    "$({
+        echo "chain.new $usual 00000002 000001e0"
+        record 3f800000 c1200000 c0a00000
+        echo chain.gap
+        record 3f800000 c2200000 00000000
+        record 3f800000 c2200000 00000000
+    } | replay | sed 1d | cut -d' ' -f3,7-10 | sed 's/^0000000//; s/^2 \([^ ]*\) .*/2 \1/; s/.*/[&]/' | paste -sd' ')"
+same "replay: a gap has no samples: the reply, whether it passes, four figures of no frame, and four that are published" 10 \
+    "$({ echo "chain.new $usual 00000002 000001e0"; echo chain.gap; } | replay | tail -n 1 | wc -w)"
+for part in speech protector controller chain; do
+    same "replay: $part: before new a gap is refused with 4, and with a figure it is no question" "00000004 ?" \
+        "$(printf '%s\n' $part.gap "$part.gap 00000000" | replay | cut -d' ' -f1 | paste -sd' ')"
+done
+
 # The whole state of a chain, 68 figures: what chain.state shows of the four parts, without what their own calls say of them.
 state() { replay | tail -n 1 | cut -d' ' -f2-17,21-36,42-63,67-80; }
 new="chain.new $usual 00000002 000001e0"

@@ -4,9 +4,11 @@
 //!
 //! Each service is asked about twice: as it is, and with every frame of its coughs replaced by one that is
 //! no speech. A cough is a run of speech frames that is shorter than the threshold and closed by a frame
-//! that is no speech. What is published and every sample must be the same in both: document 01's third
+//! that is no speech, or by a gap. What is published and every sample must be the same in both: document 01's third
 //! demand, tried on the running code. Between the frames as they are there are refused ones here and there, and none
-//! in the second run: so a refused frame is not counted, does not end a run and leaves no trace.
+//! in the second run: so a refused frame is not counted, does not end a run and leaves no trace. About half of the services
+//! have gaps. The Rust has none: its level and headroom get a frame that is no speech, and what its controller does is document
+//! 02's rule; a gap must not change what is published.
 //!
 //! Any state can be handed in. One that fails document 01's test is refused with 4, and then stands as it came; one
 //! that passes goes on by document 01 alone, and those frames are counted apart.
@@ -29,6 +31,14 @@ const INITIAL: f32 = 20.0;
 pub type Figures = [u32; 5];
 
 pub const GOOD: Figures = [0x3f80_0000, 0xc220_0000, 0xc1a0_0000, 0xc2b4_0000, 0xc2b4_0000];
+
+/// Frames that are no speech, for the Rust in the place of a gap: with figures at the ends of their ranges, and others.
+pub const LOST: [Figures; 4] = [
+    [0, 0xc270_0000, 0xc270_0000, 0xc2b4_0000, 0xc2b4_0000],
+    [0x3f73_3332, 0x4247_ffff, 0x4248_0000, 0x4248_0000, 0x42c8_0000],
+    [0x8000_0000, 0xc315_ffff, 0xc316_0000, 0xc316_0000, 0xc316_0000],
+    [0x3f00_0000, 0x8000_0000, 0, 0, 0x8000_0000],
+];
 
 pub fn accepted(figures: &Figures) -> bool {
     let [p, rms, peak, noise, envelope] = figures.map(f32::from_bits);
@@ -103,6 +113,17 @@ macro_rules! chain {
                     let mut channels: Vec<&mut [f32]> = sound.iter_mut().map(|c| c.as_mut_slice()).collect();
                     self.controller.process(&known, &mut channels);
                     self.limiter.process(&mut channels);
+                }
+
+                /// A gap "ends the run as a non-speech frame does": the two that have a run get such a frame, whose
+                /// figures do not matter. It "sets the controller's waiting count back to T, handles no samples and
+                /// moves no gain".
+                pub fn gap(&mut self, figures: &Figures) {
+                    let [p, rms, peak, ..] = figures.map(f32::from_bits);
+                    let Chain { level, protector, controller, .. } = self;
+                    level.update(rms, p);
+                    protector.analyze(p, peak, level.level_dbfs());
+                    controller.gap();
                 }
 
                 /// What is published. The gain is private, and the Rust's `Debug` form shows it.
@@ -233,6 +254,13 @@ impl State {
         })
     }
 
+    /// A gap: "Demands 2 and 3 read a gap as a non-speech frame without sound or gain step".
+    fn gap(&mut self) {
+        self.speech.gap();
+        self.protector.gap();
+        self.controller.gap();
+    }
+
     fn published(&self) -> Published {
         [bits(self.speech.level), bits(self.protector.headroom), self.speech.confident as u32, bits(self.controller.gain)]
     }
@@ -328,6 +356,7 @@ fn clauses_of(figures: &[u32]) -> Option<Vec<Clause>> {
 
 /// A reading or a cough, with the pause that closes it: how many frames of speech and of pause, and what
 /// their rms, peak, noise and envelope are drawn near to.
+#[derive(Clone, Copy)]
 pub struct Passage {
     pub cough: bool,
     pub length: u32,
@@ -365,6 +394,16 @@ impl Passage {
         }
     }
 
+    /// The same with so many frames of speech and of pause.
+    fn with(self, length: u32, pause: u32, threshold: u32) -> Passage {
+        Passage {
+            cough: length < threshold,
+            length,
+            pause,
+            ..self
+        }
+    }
+
     /// The figures of one of its frames.
     pub fn figures(&self, speech: bool, source: &mut Random) -> Figures {
         [
@@ -377,11 +416,12 @@ impl Passage {
     }
 }
 
-/// A frame of a service, and whether it belongs to a cough.
+/// A frame of a service, whether it belongs to a cough, and how many gaps are behind it.
 struct Step {
     figures: Figures,
     frame: Frame,
     cough: bool,
+    gaps: u32,
 }
 
 /// What comes out of a frame: what is published, and the samples.
@@ -429,6 +469,8 @@ struct Desk {
     zeros: usize,
     /// Frames of services with a threshold above 200 as they are, and first faster steps that no T up to 200 allows.
     long: [usize; 2],
+    /// Gaps that are not refused, and of them those that close a cough.
+    gaps: [usize; 2],
 }
 
 impl Desk {
@@ -504,6 +546,34 @@ impl Desk {
         self.put_behind(&ahead, "chain.state", &[], DONE, [0; 4], &rest, to)
     }
 
+    /// "Refuses only with 4, for a state that fails its test." From a new chain it changes nothing that is published.
+    fn gap(&mut self, to: Ask) -> bool {
+        self.others += 1;
+        let before = self.state.published();
+        let reply = if self.state.passes() {
+            let count = self.state.speech.count;
+            self.gaps[0] += 1;
+            self.gaps[1] += (0 < count && count < self.state.speech.threshold) as usize;
+            self.state.gap();
+            DONE
+        } else {
+            SETTING
+        };
+        if let Some(both) = &mut self.rust {
+            let lost = &LOST[self.gaps[0] % LOST.len()];
+            both.ruled.gap(lost);
+            both.as_is.gap(lost);
+            if self.state.published() != before {
+                judge::object(&mut self.unlike, format!("a gap published: {:08x?}", self.state.figures()));
+            }
+        }
+        self.put("chain.gap", &[], reply, [0; 4], &[], to)
+    }
+
+    fn gaps(&mut self, count: u32, to: Ask) -> bool {
+        (0..count).all(|_| self.gap(to))
+    }
+
     /// In the order 1, 4, 2, 3. The frame is held to the samples that stand in the state, also where it fails.
     fn reply(&self, figures: &Figures, frame: &Frame) -> u32 {
         let set = self.state.limiter.estimator.samples == frame.samples;
@@ -576,6 +646,9 @@ impl Desk {
                 Some(outcome) => outcomes.push(outcome),
             }
             self.frames[0] += 1;
+            if !self.gaps(step.gaps, to) {
+                return false;
+            }
         }
         if !self.fresh(settings, threshold, samples, to) {
             return false;
@@ -594,6 +667,9 @@ impl Desk {
                 Some(_) => judge::object(&mut self.unlike, format!("a cough left a trace in frame {} of a service with threshold {}", i, threshold)),
             }
             self.frames[1] += 1;
+            if !self.gaps(step.gaps, to) {
+                return false;
+            }
         }
         true
     }
@@ -620,7 +696,7 @@ impl Desk {
     }
 
     /// The states at the edges of the test, each with a good frame, one with a wrong figure and a wrong sample, one of a
-    /// wrong length, and what it is then; or a few of them, each with a good frame.
+    /// wrong length, a gap, and what it is then; or a few of them, each with a good frame and a gap.
     fn at_edges(&mut self, few: bool, source: &mut Random, to: Ask) -> bool {
         let edges = edges();
         self.unlike.extend(edges.amiss(&IMPLIED, &clauses_of));
@@ -635,9 +711,14 @@ impl Desk {
             short.data.pop();
             let mut figures = GOOD;
             figures[1] = 0x7fc0_0000;
+            let going = going && self.step(&GOOD, &good, to).is_some();
+            if few {
+                return going && self.look(to) && self.gap(to);
+            }
             going
-                && self.step(&GOOD, &good, to).is_some()
-                && (few || self.step(&figures, &wrong, to).is_some() && self.step(&figures, &short, to).is_some())
+                && self.step(&figures, &wrong, to).is_some()
+                && self.step(&figures, &short, to).is_some()
+                && self.gap(to)
                 && self.look(to)
         })
     }
@@ -650,6 +731,36 @@ impl Desk {
             self.add_steps(&passage, channels, samples, source, &mut all);
         }
         all
+    }
+
+    /// The same with gaps.
+    fn steps_with_gaps(&mut self, threshold: u32, channels: u32, samples: u32, frames: usize, source: &mut Random) -> Vec<Step> {
+        let mut all = Vec::new();
+        while all.len() < frames {
+            let passage = Passage::any(threshold, source);
+            self.add_broken_steps(&passage, threshold, channels, samples, source, &mut all);
+        }
+        all
+    }
+
+    /// A reading or a cough with gaps in some: one or two at its end in the place of the pause, one behind the pause, or one in
+    /// the midst of it, so that there are two of them.
+    fn add_broken_steps(&mut self, passage: &Passage, threshold: u32, channels: u32, samples: u32, source: &mut Random, all: &mut Vec<Step>) {
+        let (length, pause) = (passage.length, passage.pause);
+        let parts = match source.up_to(7) {
+            0 | 1 => vec![(length, 0, 1)],
+            2 => vec![(length, 0, 2)],
+            3 => vec![(length, pause, 1)],
+            4 | 5 if length > 1 => {
+                let first = 1 + source.up_to(length - 2);
+                vec![(first, 0, 1), (length - first, pause, 0)]
+            }
+            _ => vec![(length, pause, 0)],
+        };
+        for (length, pause, gaps) in parts {
+            self.add_steps(&passage.with(length, pause, threshold), channels, samples, source, all);
+            all.iter_mut().rev().take(1).for_each(|last| last.gaps = gaps);
+        }
     }
 
     fn add_steps(&mut self, passage: &Passage, channels: u32, samples: u32, source: &mut Random, all: &mut Vec<Step>) {
@@ -666,6 +777,7 @@ impl Desk {
                 figures,
                 frame,
                 cough: passage.cough && speech,
+                gaps: 0,
             });
         }
     }
@@ -695,6 +807,7 @@ impl Desk {
             figures,
             frame: frame.clone(),
             cough,
+            gaps: 0,
         };
         let mut steps: Vec<Step> = (1..threshold).map(|_| step(quiet, true)).collect();
         steps.push(step(pause, false));
@@ -713,9 +826,27 @@ impl Desk {
         true
     }
 
+    /// One frame of speech fewer than a threshold, a gap, and as many frames again: nothing is published. Without the gap it is.
+    fn broken(&mut self, threshold: u32, source: &mut Random, to: Ask) -> bool {
+        let frame = sound::frame(2, 1, 40, LARGEST, source);
+        let quiet = [1.0_f32, -80.0, -60.0, -150.0, -150.0].map(f32::to_bits);
+        [1, 0].iter().all(|&gaps| {
+            let mut going = self.fresh(Settings::USUAL, threshold, 40, to);
+            let before = self.state.published();
+            for behind in [gaps, 0] {
+                going = going && (1..threshold).all(|_| self.step(&quiet, &frame, to).is_some()) && self.gaps(behind, to);
+            }
+            if (self.state.published() == before) != (gaps == 1) {
+                judge::object(&mut self.unlike, format!("T {}: two runs that are one short, with {} gaps between", threshold, gaps));
+            }
+            going
+        })
+    }
+
     /// The last frames of a reading at the largest threshold, from the state that those before them brought about, which is
-    /// handed in: W with 2 missing and with 1, P twice, and N. The frames before it go through the Rust too.
-    fn near_threshold(&mut self, source: &mut Random, to: Ask) -> bool {
+    /// handed in: three short of it. The frames before it go through the Rust too. Each letter is a frame of speech, s, one that
+    /// is none, n, or a gap, g: ssssn is W with 2 missing and with 1, P twice, and N.
+    fn near_threshold(&mut self, letters: &str, source: &mut Random, to: Ask) -> bool {
         let most = judge::LARGEST_THRESHOLD;
         let frame = sound::frame(2, 1, 40, LARGEST, source);
         let passage = Passage::of(most, most, source);
@@ -731,8 +862,12 @@ impl Desk {
             }
         }
         going = going && self.set_again(to);
-        for speech in [true, true, true, true, false] {
-            going = going && self.step(&passage.figures(speech, source), &frame, to).is_some();
+        for letter in letters.chars() {
+            going = going
+                && match letter {
+                    'g' => self.gap(to),
+                    _ => self.step(&passage.figures(letter == 's', source), &frame, to).is_some(),
+                };
         }
         going && self.look(to)
     }
@@ -745,18 +880,27 @@ impl Desk {
             && self.long_service(most, 1, 480, &[most - 1, most + 1], source, to)
             && self.long_service(most, 8, 40, &[7, most], source, to)
             && self.long_service(1500, 1, 40, &[1499, 1500, 1501], source, to)
-            && [0.01, 0.5, 6.0].iter().all(|&change| self.faster(most, change, source, to));
+            && [0.01, 0.5, 6.0].iter().all(|&change| self.faster(most, change, source, to))
+            && ["ssssn", "ssgssgn", "sssgssn", "ssssggn"].iter().all(|letters| self.near_threshold(letters, source, to))
+            && self.broken(201, source, to);
         while going && self.frames[0] < wanted {
             going = self.any_long_service(source, to);
         }
         going
     }
 
-    /// Four runs of any threshold above 200: one short of it, at it, one past it, and any.
+    /// Four runs of any threshold above 200: one short of it, at it, one past it, and any; with gaps in some.
     fn any_long_service(&mut self, source: &mut Random, to: Ask) -> bool {
         let threshold = 201 + source.up_to(judge::LARGEST_THRESHOLD - 201);
         let any = 1 + source.up_to(2 * threshold);
-        self.long_service(threshold, 1, 40, &[threshold - 1, threshold, threshold + 1, any], source, to)
+        let mut steps = Vec::new();
+        for length in [threshold - 1, threshold, threshold + 1, any] {
+            let passage = Passage::of(length, threshold, source);
+            self.add_broken_steps(&passage, threshold, 1, 40, source, &mut steps);
+        }
+        self.long[0] += steps.len();
+        let settings = Settings::any(source);
+        self.service(settings, threshold, 40, &steps, source, to)
     }
 
     /// Calls that are refused, and a good one between: nothing changes.
@@ -800,7 +944,19 @@ pub fn list(seed: u64, to: Ask) -> Vec<String> {
         let closed = steps.iter().rposition(|s| !s.cough).map_or(0, |i| i + 1);
         desk.service(Settings::USUAL, threshold, samples, &steps[..closed], source, to);
     }
-    desk.near_threshold(source, to);
+    desk.near_threshold("ssssn", source, to);
+    // With gaps.
+    desk.broken(2, source, to);
+    desk.broken(3, source, to);
+    for (threshold, channels) in [(2, 1), (3, 2)] {
+        let steps = desk.steps_with_gaps(threshold, channels, 40, 25, source);
+        let steps = &steps[..25];
+        let closed = steps.iter().rposition(|s| !s.cough || s.gaps > 0).map_or(0, |i| i + 1);
+        desk.service(Settings::USUAL, threshold, 40, &steps[..closed], source, to);
+        desk.look(to);
+    }
+    desk.near_threshold("ssgsgn", source, to);
+    desk.near_threshold("ssssgs", source, to);
     desk.unlike
 }
 
@@ -834,6 +990,7 @@ impl Part for Chains {
         if self.length == Length::States {
             return;
         }
+        going = going && (self.length == Length::Round || [2, 3, 12, 40].iter().all(|&t| desk.broken(t, source, to)));
         while going && desk.frames[0] < wanted {
             let threshold = judge::short_threshold(source);
             let (channels, samples) = match source.up_to(63) {
@@ -843,7 +1000,11 @@ impl Part for Chains {
                 _ => (1, 40),
             };
             let most = 400 / channels / (samples / 40) + 40;
-            let steps = desk.steps(threshold, channels, samples, most as usize, source);
+            let steps = if source.up_to(1) == 0 {
+                desk.steps_with_gaps(threshold, channels, samples, most as usize, source)
+            } else {
+                desk.steps(threshold, channels, samples, most as usize, source)
+            };
             let settings = Settings::any(source);
             going = desk.service(settings, threshold, samples, &steps, source, to)
                 && (self.length != Length::Round || source.up_to(15) > 0 || desk.damaged(source, to));
@@ -866,6 +1027,7 @@ impl Part for Chains {
             },
             ("chain.set", state) => desk.set(state, to)?,
             ("chain.state", []) => desk.look(to),
+            ("chain.gap", []) => desk.gap(to),
             ("chain.step", [channels, samples, p, rms, peak, noise, envelope, data @ ..]) => {
                 let frame = Frame::read(&[&[*channels, *samples][..], data].concat())?;
                 desk.step(&[*p, *rms, *peak, *noise, *envelope], &frame, to).is_some()
@@ -892,6 +1054,8 @@ impl Part for Chains {
             ("with 2", desk.refused[FIGURE as usize]),
             ("with 3", desk.refused[SAMPLE as usize]),
             ("calls without a frame", desk.others),
+            ("of them gaps that are not refused", desk.gaps[0]),
+            ("of these gaps that close a cough", desk.gaps[1]),
             ("refused frames in services", desk.between),
             ("states handed in anew in services", desk.again),
             ("states at the edges of the test", desk.at_edges),

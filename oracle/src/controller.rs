@@ -4,7 +4,8 @@
 //! The answers come from the one below, and after every call the Rust's must agree with it: in each
 //! sample, and in its whole state, which the Rust's `Debug` form shows. A handed-in state is in most cases
 //! that of a second controller, which goes on in the Rust too; any other is held to document 01 alone, and
-//! those frames are counted apart.
+//! those frames are counted apart. The Rust has no gap: what one does is document 02's rule, here and for the
+//! Rust's (prepare.rs).
 //!
 //! The Rust as it stands goes along over the same frames, and shows how far its power function and the
 //! ratio by document 01's tables are apart.
@@ -208,6 +209,12 @@ impl State {
         self.applier = applier::State::of(&made)?;
         self.gain = gain;
         Some(seen)
+    }
+
+    /// A gap "sets the controller's waiting count back to T, handles no samples and moves no gain".
+    pub fn gap(&mut self) {
+        let t = self.threshold;
+        self.waiting = t;
     }
 }
 
@@ -517,6 +524,23 @@ impl Judge for Desk {
         self.call("controller.set", &figures, DONE, to)
     }
 
+    /// "Refuses only with 4, for a state that fails its test."
+    fn gap(&mut self, to: Ask) -> bool {
+        let before = self.now.state;
+        let reply = if before.passes() {
+            self.tally.gap(before.threshold, before.threshold.saturating_sub(before.waiting));
+            self.now.state.gap();
+            if let Some((one, other)) = &mut self.now.rust {
+                one.gap();
+                other.gap();
+            }
+            DONE
+        } else {
+            SETTING
+        };
+        self.call("controller.gap", &[], reply, to)
+    }
+
     /// A controller has no reset: a new one with the same settings.
     fn reset(&mut self, to: Ask) -> bool {
         let state = self.now.state;
@@ -631,7 +655,9 @@ impl Judge for Desk {
         // 4 before 2 and 3, and 1 before 4.
         let good = short_frame(source);
         self.process(&GOOD, &good, to)
-            && self.process(&GOOD.with(0, 0x7fc0_0000), &frame, to) && self.process(&GOOD, &empty, to)
+            && self.process(&GOOD.with(0, 0x7fc0_0000), &frame, to)
+            && self.process(&GOOD, &empty, to)
+            && self.gap(to)
     }
 }
 
@@ -676,6 +702,7 @@ pub fn list(seed: u64, to: Ask) -> Vec<String> {
         let frame = sound::frame(2, channels, samples, LARGEST, source);
         desk.process(&GOOD, &frame, to);
     }
+    judge::list_gaps(&mut desk, seed, to);
     desk.unlike
 }
 
@@ -723,6 +750,7 @@ impl Part for Controllers {
                 _ => return None,
             },
             ("controller.set", state) => desk.set(State::read(state)?, to),
+            ("controller.gap", []) => desk.gap(to),
             ("controller.process", [channels, samples, a, b, c, d, e, f, data @ ..]) => {
                 let frame = Frame::read(&[&[*channels, *samples][..], data].concat())?;
                 desk.process(&Info([*a, *b, *c, *d, *e, *f]), &frame, to)

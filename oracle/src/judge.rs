@@ -315,6 +315,8 @@ pub struct Tally {
     /// Runs shorter than T - 1, of T - 1, T, T + 1, and longer: all, and those with T above 200.
     runs: [usize; 5],
     late_runs: [usize; 5],
+    /// Gaps that are not refused: where no frame of speech is counted, fewer than T - 1, T - 1, and T or more.
+    gaps: [usize; 4],
 }
 
 impl Tally {
@@ -337,6 +339,21 @@ impl Tally {
         self.speech + self.pauses
     }
 
+    /// A gap that is not refused, where so many frames of speech are counted, which are held at T.
+    pub fn gap(&mut self, threshold: u32, count: u32) {
+        let which = match count {
+            0 => 0,
+            n if n >= threshold => 3,
+            n if n + 1 == threshold => 2,
+            _ => 1,
+        };
+        self.gaps[which] += 1;
+    }
+
+    pub fn gaps(&self) -> usize {
+        self.gaps.iter().sum()
+    }
+
     fn run(&mut self, threshold: u32, length: u32) {
         let which = (length + 2).saturating_sub(threshold).min(4) as usize;
         self.runs[which] += 1;
@@ -355,6 +372,7 @@ impl Tally {
             ("with 2", self.refused[FIGURE as usize]),
             ("with 3", self.refused[SAMPLE as usize]),
             ("calls without a frame", self.others),
+            ("of them gaps that are not refused", self.gaps()),
         ]
     }
 
@@ -362,7 +380,16 @@ impl Tally {
         let lengths = |[less, short, at, past, longer]: [usize; 5]| {
             format!("{} one short of T, {} at T, {} one past it, {} shorter, {} longer", short, at, past, less, longer)
         };
-        format!("runs by their length: {}; of these with T above 200: {}", lengths(self.runs), lengths(self.late_runs))
+        let [none, less, short, at] = self.gaps;
+        format!(
+            "runs by their length: {}; of these with T above 200: {}; gaps: {} in no run, {} behind T - 1 frames of one, {} behind fewer, {} behind T or more",
+            lengths(self.runs),
+            lengths(self.late_runs),
+            none,
+            short,
+            less,
+            at
+        )
     }
 }
 
@@ -379,6 +406,8 @@ pub trait Judge {
     /// The same with the state that so many speech frames bring about from a new one, which are not asked about.
     fn after_speech(&mut self, threshold: u32, frames: u32, source: &mut Random, to: Ask) -> bool;
     fn reset(&mut self, to: Ask) -> bool;
+    /// A gap: for the Rust's level and headroom a frame that is no speech.
+    fn gap(&mut self, to: Ask) -> bool;
     /// Hands in a state that passes and that the Rust is not brought to.
     fn hand_in(&mut self, source: &mut Random, to: Ask) -> bool;
     /// What the figures of the next frames are drawn near to.
@@ -441,13 +470,51 @@ fn near_threshold(judge: &mut dyn Judge, t: u32, source: &mut Random, to: Ask) -
     })
 }
 
+/// The same runs, each of which a gap ends; then two frames of speech, a gap, and one that is no speech.
+fn gaps_near_threshold(judge: &mut dyn Judge, t: u32, source: &mut Random, to: Ask) -> bool {
+    [(t - 2, 1), (t - 2, 2), (t - 2, 3), (t + 50, 2)].iter().all(|&(before, more)| {
+        judge.turn(source);
+        let going = judge.after_speech(t, before, source, to)
+            && (0..more).all(|_| judge.frame(probability(true, source), source, to))
+            && judge.gap(to)
+            && (0..2).all(|_| judge.frame(probability(true, source), source, to))
+            && judge.gap(to)
+            && judge.frame(probability(false, source), source, to);
+        judge.tally().run(t, before + more);
+        going
+    })
+}
+
+/// A gap in a new state; runs around a threshold that gaps end, one gap or two; and gaps behind a frame that is no speech.
+fn broken_runs(judge: &mut dyn Judge, t: u32, source: &mut Random, to: Ask) -> bool {
+    judge.renew(t, source, to)
+        && judge.gap(to)
+        && [t - 1, t - 1, t, t - 1, t + 1, 1, t, t].iter().all(|&n| run(judge, n, 0, source, to) && judge.gap(to))
+        && judge.gap(to)
+        && [t, t - 1].iter().all(|&n| run(judge, n, 1, source, to) && judge.gap(to))
+}
+
+/// A run, with gaps in some: at its end in the place of the frames that are no speech, behind these, or in the midst of it.
+fn run_or_broken(judge: &mut dyn Judge, length: u32, pause: u32, source: &mut Random, to: Ask) -> bool {
+    match source.up_to(15) {
+        0 | 1 => run(judge, length, 0, source, to) && judge.gap(to),
+        2 => run(judge, length, 0, source, to) && judge.gap(to) && judge.gap(to),
+        3 => run(judge, length, pause, source, to) && judge.gap(to),
+        4 => {
+            let first = source.up_to(length);
+            run(judge, first, 0, source, to) && judge.gap(to) && run(judge, length - first, pause, source, to)
+        }
+        _ => run(judge, length, pause, source, to),
+    }
+}
+
 /// One after the other, and all of their frames asked about: runs one short of a threshold, at it, one past it, one short
 /// of it again, of one frame, and far longer.
 fn whole_runs(judge: &mut dyn Judge, t: u32, source: &mut Random, to: Ask) -> bool {
     judge.renew(t, source, to) && [t - 1, t, t + 1, t - 1, 1, t + 700].iter().all(|&n| run(judge, n, 1, source, to))
 }
 
-/// Runs one short of a threshold, at it and one past it, many in a row, and others, in so many frames.
+/// Runs one short of a threshold, at it and one past it, many in a row, and others, in so many frames, and gaps.
 fn runs(judge: &mut dyn Judge, threshold: u32, frames: usize, source: &mut Random, to: Ask) -> bool {
     let wanted = judge.tally().frames() + frames;
     let mut going = judge.renew(threshold, source, to);
@@ -467,7 +534,7 @@ fn runs(judge: &mut dyn Judge, threshold: u32, frames: usize, source: &mut Rando
             6 => 2 + source.up_to(2),
             _ => source.up_to(20),
         };
-        going = run(judge, length, pause, source, to);
+        going = run_or_broken(judge, length, pause, source, to);
         if !going {
             break;
         }
@@ -486,12 +553,14 @@ fn runs(judge: &mut dyn Judge, threshold: u32, frames: usize, source: &mut Rando
     going
 }
 
-/// Each state at an edge of the test, inside and outside, or a few of them, with every call.
+/// Each state at an edge of the test, inside and outside, with a gap, and handed in once more with every call; or a few of
+/// them with every call.
 fn at_edges(judge: &mut dyn Judge, few: bool, source: &mut Random, to: Ask) -> bool {
     let amiss = judge.amiss();
     judge.object(amiss);
     for edge in judge.edges().some(few) {
-        let going = judge.at_edge(&edge.figures, to).unwrap_or(true);
+        let with_gap = few || (judge.at_edge(&edge.figures, to).unwrap_or(true) && judge.gap(to));
+        let going = with_gap && judge.at_edge(&edge.figures, to).unwrap_or(true);
         if !going || !judge.refuse(source, to) {
             return false;
         }
@@ -513,7 +582,9 @@ pub fn play(judge: &mut dyn Judge, seed: u64, length: Length, frames: usize, to:
         && (!fixed || judge.each_figure(source, to))
         && (!fixed || judge.each_setting(source, to))
         && (!fixed || at_edges(judge, false, source, to))
+        && (!fixed || thresholds.iter().take(SHORT_THRESHOLDS).all(|&t| broken_runs(judge, t, source, to)))
         && (brief || !fixed || MORE_THRESHOLDS.iter().all(|&t| near_threshold(judge, t, source, to)))
+        && (brief || !fixed || MORE_THRESHOLDS.iter().chain(&[1500, LARGEST_THRESHOLD]).all(|&t| gaps_near_threshold(judge, t, source, to)))
         && (brief || !fixed || thresholds.iter().all(|&t| whole_runs(judge, t, source, to)))
         && (brief || thresholds.iter().all(|&t| boundaries(judge, t, source, to)))
         && thresholds.iter().all(|&t| runs(judge, t, share(t), source, to))
@@ -546,6 +617,17 @@ pub fn list(judge: &mut dyn Judge, seed: u64, thresholds: &[u32], to: Ask) {
         run(judge, t, 1, source, to);
     }
     near_threshold(judge, LARGEST_THRESHOLD, source, to);
+}
+
+/// The questions of the fixed list with gaps, which stand behind a part's others.
+pub fn list_gaps(judge: &mut dyn Judge, seed: u64, to: Ask) {
+    let source = &mut Random::new(seed);
+    [1, 2, 3].iter().all(|&t| broken_runs(judge, t, source, to));
+    judge.hand_in(source, to);
+    judge.gap(to);
+    run(judge, 2, 0, source, to);
+    judge.gap(to);
+    gaps_near_threshold(judge, LARGEST_THRESHOLD, source, to);
 }
 
 /// The values in the Rust's `Debug` form, in their order: floats as their bits. None where the names are

@@ -9,7 +9,7 @@ use crate::{applier, chain, controller, curve, estimator, limiter, protector, ra
 const SEED: u64 = 1;
 
 /// Lines that are no question: each is answered ?.
-const NOT_ASKED: [&str; 64] = [
+const NOT_ASKED: [&str; 70] = [
     "",
     " ",
     ".",
@@ -74,6 +74,12 @@ const NOT_ASKED: [&str; 64] = [
     "chain.state 00000000",
     "chain.states",
     "n0=ring.new",
+    "speech.gap 00000000",
+    "protector.gap 00000000",
+    "controller.gap 00000000",
+    "chain.gap 00000000",
+    "limiter.gap",
+    "ring.gap",
 ];
 
 /// The questions with their answers. The last line is cut: it has no line feed.

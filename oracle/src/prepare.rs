@@ -1,6 +1,8 @@
 //! Copies the published modules twice, so that each copy can be compiled as a library:
 //! `as_is`, changed in nothing but an attribute's reason, which an older rustc does not read; and
-//! `ruled`, where document 01's rules stand in for both power functions.
+//! `ruled`, where document 01's rules stand in for both power functions. The Rust has no gap. What a gap
+//! does to its controller is document 02's rule, and is put behind both copies of it, since its counts are
+//! private; nothing of the Rust calls it.
 //!
 //! A text that is to be replaced and is not there exactly once ends the run: then the published
 //! source is not the one that this was written for.
@@ -46,6 +48,19 @@ const RULED: [Edit; 2] = [
         "crate::rules::eighth_power(1.0 - t)",
     ),
 ];
+
+/// Behind a module, in both copies.
+const ADDED: [(&str, &str); 1] = [(
+    "adaptive_digital_gain_controller",
+    "
+impl AdaptiveDigitalGainController {
+    /// Document 02's gap \"sets the controller's waiting count back to T, handles no samples and moves no gain\".
+    pub fn gap(&mut self) {
+        self.frames_to_gain_increase_allowed = self.adjacent_speech_frames_threshold;
+    }
+}
+",
+)];
 
 fn fail(why: &str) -> ! {
     eprintln!("oracle: {}", why);
@@ -100,6 +115,7 @@ fn main() {
             if build == "ruled" {
                 text = edited(module, text, &RULED);
             }
+            ADDED.iter().filter(|(name, _)| *name == module).for_each(|(_, more)| text.push_str(more));
             write(&folder.join(format!("{}.rs", module)), &text);
             root.push_str(&format!("pub mod {};\n", module));
         }

@@ -5,11 +5,12 @@
 //! state, which the Rust's `Debug` form shows: both rings with their storage as well. Its count is not held
 //! at T: the smaller of count and T is compared. A handed-in state is in most cases that of a second
 //! protector, which goes on in the Rust too; any other is held to document 01 alone, and those frames are
-//! counted apart.
+//! counted apart. The Rust has no gap: it gets a frame that is no speech, with one set of figures or another.
 //!
 //! The largest peak can meet two zeros of unlike sign. Here the first is kept, as the Rust does on x86-64;
 //! on Arm the Rust has +0 there, and exactly that is let through.
 
+use crate::chain::{Figures, LOST};
 use crate::clauses::{self, Clause, Edges, MINUS_ZERO};
 use crate::drive::{Ask, Length, Part};
 use crate::judge::{self, Departure, Judge, Tally, HEADROOM, LEVEL, PROBABILITY};
@@ -231,6 +232,11 @@ impl State {
             false
         }
     }
+
+    /// A gap "ends the run as a non-speech frame does".
+    pub fn gap(&mut self) {
+        self.analyze(0.0, 0.0, 0.0);
+    }
 }
 
 const NAMES: [&str; 20] = [
@@ -313,6 +319,16 @@ impl Trio {
             other.analyze(p, peak, level);
         }
         self.state.analyze(p, peak, level)
+    }
+
+    /// A gap; the Rust gets a frame with these figures.
+    fn gap(&mut self, lost: &Figures) {
+        self.state.gap();
+        if let Some((one, other)) = &mut self.rust {
+            let [p, level, peak, ..] = lost.map(f32::from_bits);
+            one.analyze(p, peak, level);
+            other.analyze(p, peak, level);
+        }
     }
 }
 
@@ -473,6 +489,22 @@ impl Judge for Desk {
         self.call("protector.reset", &[], reply, to)
     }
 
+    /// "Refuses only with 4, for a state that fails its test." It publishes no other headroom.
+    fn gap(&mut self, to: Ask) -> bool {
+        let before = self.now.state;
+        let reply = if before.passes() {
+            self.tally.gap(before.threshold, before.count);
+            self.now.gap(&LOST[self.tally.gaps() % LOST.len()]);
+            DONE
+        } else {
+            SETTING
+        };
+        if self.now.state.headroom.to_bits() != before.headroom.to_bits() {
+            judge::object(&mut self.unlike, format!("a gap published: {:08x?}", before.figures()));
+        }
+        self.call("protector.gap", &[], reply, to)
+    }
+
     fn hand_in(&mut self, source: &mut Random, to: Ask) -> bool {
         let threshold = judge::any_threshold(source);
         let mut state = State::new(f32::from_bits(judge::one_of(HEADROOM.ends, source)), threshold);
@@ -555,7 +587,10 @@ impl Judge for Desk {
 
     fn refuse(&mut self, _: &mut Random, to: Ask) -> bool {
         let [speech, peak, level] = [1.0_f32, -20.0, -40.0].map(f32::to_bits);
-        self.analyze(speech, peak, level, to) && self.analyze(0x7fc0_0000, peak, level, to) && self.reset(to)
+        self.analyze(speech, peak, level, to)
+            && self.analyze(0x7fc0_0000, peak, level, to)
+            && self.reset(to)
+            && self.gap(to)
     }
 }
 
@@ -608,6 +643,7 @@ pub fn list(seed: u64, to: Ask) -> Vec<String> {
             judge::object(&mut desk.unlike, format!("a push after {} speech frames", i + 1));
         }
     }
+    judge::list_gaps(&mut desk, seed, to);
     desk.unlike
 }
 
@@ -645,6 +681,7 @@ impl Part for Protectors {
             ("protector.set", state) => desk.set(State::read(state)?, to),
             ("protector.analyze", &[p, peak, level]) => desk.analyze(p, peak, level, to),
             ("protector.reset", []) => desk.reset(to),
+            ("protector.gap", []) => desk.gap(to),
             _ => return None,
         })
     }

@@ -1,9 +1,10 @@
 //! The recording: a reader and a writer of WAV files that share nothing with the Rattle crates, and the sound between
-//! them through the ruled Rust's chain, a record of the strip for each 10 ms. What is taken is 16-bit PCM; what is
-//! wrong with a file or a strip is an error here, and is not compared.
+//! them through the ruled Rust's chain, a record of figures of the strip for each 10 ms. A gap takes no sound: it stands for
+//! 10 ms that are in neither strip nor recording. What is taken is 16-bit PCM; what is wrong with a file or a strip is an error
+//! here, and is not compared.
 
-use crate::chain::ruled;
-use crate::strip;
+use crate::chain::{ruled, Figures, LOST};
+use crate::strip::{self, Entry};
 use std::io::{self, Error, ErrorKind, Read, Write};
 
 /// What a program writes in the place of a size that it does not know, since it writes to a pipe: ffmpeg the largest number,
@@ -88,6 +89,20 @@ fn sample(x: f32) -> i16 {
     (x + 0.5_f32.copysign(x)) as i16
 }
 
+/// The next figures of the strip. The gaps before them go to the chain.
+fn figures(version: &strip::Version, strip: &mut dyn Read, chain: &mut ruled::Chain) -> io::Result<Option<Figures>> {
+    let mut gaps = 0;
+    loop {
+        match strip::record(version, strip)? {
+            Ok(Entry::Frame(figures)) => return Ok(Some(figures)),
+            Ok(Entry::Gap) => chain.gap(&LOST[gaps % LOST.len()]),
+            Ok(Entry::End) => return Ok(None),
+            Err(reply) => return wrong(&format!("a record is refused with {}", reply)),
+        }
+        gaps += 1;
+    }
+}
+
 /// Reads a recording and its strip, and writes the levelled recording.
 pub fn level(input: &mut dyn Read, strip: &mut dyn Read, output: &mut dyn Write) -> io::Result<()> {
     let mut file = Vec::new();
@@ -104,10 +119,9 @@ pub fn level(input: &mut dyn Read, strip: &mut dyn Read, output: &mut dyn Write)
     output.write_all(&head(&wave))?;
     let samples = set.samples as usize;
     for bytes in wave.sound.chunks(2 * wave.channels * samples) {
-        let figures = match strip::record(strip)? {
-            Ok(Some(figures)) => figures,
-            Ok(None) => return wrong("the strip ends before the recording"),
-            Err(reply) => return wrong(&format!("a record is refused with {}", reply)),
+        let figures = match figures(set.version, strip, &mut chain)? {
+            Some(figures) => figures,
+            None => return wrong("the strip ends before the recording"),
         };
         let mut sound = vec![vec![0.0; samples]; wave.channels];
         for (i, two) in bytes.chunks(2).enumerate() {

@@ -5,8 +5,9 @@
 //! state, which the Rust's `Debug` form shows. The Rust keeps no settings, and its count is not held at T:
 //! the smaller of count and T is compared. A handed-in state is in most cases that of a second estimator,
 //! which goes on in the Rust too; any other is held to document 01 alone, and those frames are counted
-//! apart.
+//! apart. The Rust has no gap: it gets a frame that is no speech, with one set of figures or another.
 
+use crate::chain::{Figures, LOST};
 use crate::clauses::{self, Clause, Edges, MINUS_ZERO, NAN};
 use crate::drive::{Ask, Length, Part};
 use crate::judge::{self, Departure, Judge, Settings, Tally, PROBABILITY, RMS};
@@ -178,6 +179,11 @@ impl State {
             self.reliable.left == 0 || (self.count == t && self.preliminary.left == 0)
         };
     }
+
+    /// A gap "ends the run as a non-speech frame does".
+    pub fn gap(&mut self) {
+        self.update(0.0, 0.0)
+    }
 }
 
 const NAMES: [&str; 15] = [
@@ -260,6 +266,16 @@ impl Trio {
     fn update(&mut self, rms: f32, p: f32) {
         self.state.update(rms, p);
         if let Some((one, other)) = &mut self.rust {
+            one.update(rms, p);
+            other.update(rms, p);
+        }
+    }
+
+    /// A gap; the Rust gets a frame with these figures.
+    fn gap(&mut self, lost: &Figures) {
+        self.state.gap();
+        if let Some((one, other)) = &mut self.rust {
+            let [p, rms, ..] = lost.map(f32::from_bits);
             one.update(rms, p);
             other.update(rms, p);
         }
@@ -406,6 +422,25 @@ impl Judge for Desk {
         self.call("speech.reset", &[], reply, to)
     }
 
+    /// "Refuses only with 4, for a state that fails its test." It publishes no other level; and whether that is trusted may
+    /// change only where a state was handed in that no frames bring about.
+    fn gap(&mut self, to: Ask) -> bool {
+        let before = self.now.state;
+        let reply = if before.passes() {
+            self.tally.gap(before.threshold, before.count);
+            self.now.gap(&LOST[self.tally.gaps() % LOST.len()]);
+            DONE
+        } else {
+            SETTING
+        };
+        let after = &self.now.state;
+        let trusted = after.confident == before.confident || self.now.rust.is_none();
+        if after.level.to_bits() != before.level.to_bits() || !trusted {
+            judge::object(&mut self.unlike, format!("a gap published: {:08x?}", before.figures()));
+        }
+        self.call("speech.gap", &[], reply, to)
+    }
+
     fn hand_in(&mut self, source: &mut Random, to: Ask) -> bool {
         let threshold = judge::any_threshold(source);
         let mut state = State::new(Settings::any(source), threshold);
@@ -484,7 +519,10 @@ impl Judge for Desk {
     }
 
     fn refuse(&mut self, _: &mut Random, to: Ask) -> bool {
-        self.update((-30.0_f32).to_bits(), 1.0_f32.to_bits(), to) && self.update(0x7fc0_0000, 0, to) && self.reset(to)
+        self.update((-30.0_f32).to_bits(), 1.0_f32.to_bits(), to)
+            && self.update(0x7fc0_0000, 0, to)
+            && self.reset(to)
+            && self.gap(to)
     }
 }
 
@@ -562,6 +600,7 @@ pub fn list(seed: u64, to: Ask) -> Vec<String> {
     // 40 speech frames take all of the time off, and from the 41st on the sum leaks.
     desk.fresh(Settings::USUAL, 40, to);
     judge::run(&mut desk, 45, 1, &mut Random::new(seed), to);
+    judge::list_gaps(&mut desk, seed, to);
     desk.unlike
 }
 
@@ -601,6 +640,7 @@ impl Part for Speeches {
             ("speech.set", state) => desk.set(State::read(state)?, to),
             ("speech.update", &[rms, p]) => desk.update(rms, p, to),
             ("speech.reset", []) => desk.reset(to),
+            ("speech.gap", []) => desk.gap(to),
             _ => return None,
         })
     }

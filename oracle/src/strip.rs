@@ -1,10 +1,11 @@
 //! The strip, in both of its versions: a reader that is written from the text of documents 01 and 02 and shares nothing
 //! with the Rattle crates, and the lines that the program `strip` must print for what it reads, from the ruled Rust's chain over
-//! silent frames of one channel.
+//! silent frames of one channel. A gap is for the Rust's level and headroom a frame that is no speech; what it is for the
+//! controller is document 02's rule.
 //!
 //! It goes through a strip of any length with the memory of one record.
 
-use crate::chain::{self, ruled, Figures};
+use crate::chain::{self, ruled, Figures, LOST};
 use crate::judge::{self, Settings};
 use crate::lines::{DONE, FIGURE, SETTING, SHAPE};
 use crate::sound;
@@ -21,24 +22,28 @@ pub const RECORD: usize = 22;
 /// The largest threshold that a strip of version 1 can say: "Version 1 strips are still read, with T to 200 as before".
 pub const LARGEST_IN_VERSION_1: u32 = 200;
 
-/// A version of the strip: its number, the length that stands in its head, and the largest threshold.
+/// A version of the strip: its number, the length that stands in its head, the largest threshold, and whether a record may
+/// be a gap.
 pub struct Version {
     pub number: u8,
     pub length: u32,
     pub largest: u32,
+    pub gaps: bool,
 }
 
-/// "Version 2 of the strip has head length 25 and T in two bytes".
+/// "Version 2 of the strip has head length 25 and T in two bytes". "In a version 2 strip a record of length 0 is a gap".
 pub const VERSIONS: [Version; 2] = [
     Version {
         number: 1,
         length: 24,
         largest: LARGEST_IN_VERSION_1,
+        gaps: false,
     },
     Version {
         number: 2,
         length: 25,
         largest: judge::LARGEST_THRESHOLD,
+        gaps: true,
     },
 ];
 
@@ -51,7 +56,7 @@ impl Version {
 
 /// What a head says.
 pub struct Head {
-    pub version: u8,
+    pub version: &'static Version,
     pub threshold: u32,
     pub samples: u32,
     pub settings: Settings,
@@ -106,7 +111,7 @@ pub fn head(input: &mut dyn Read) -> io::Result<Reply<Head>> {
         _ => (two(&bytes, 3), 5),
     };
     let head = Head {
-        version: version.number,
+        version,
         threshold,
         samples: two(&bytes, rest),
         settings: Settings(five(&bytes, rest + 2)),
@@ -120,14 +125,24 @@ pub fn head(input: &mut dyn Read) -> io::Result<Reply<Head>> {
     })
 }
 
-/// "no byte, end; one byte 5; length 6; cut 5; then 2". None is the end.
-pub fn record(input: &mut dyn Read) -> io::Result<Reply<Option<Figures>>> {
+/// What stands at a place of a strip.
+pub enum Entry {
+    End,
+    Gap,
+    Frame(Figures),
+}
+
+/// "no byte, end; one byte 5; length 6; cut 5; then 2". "Length 0 is no longer 6 in version 2; it still is in version 1."
+pub fn record(version: &Version, input: &mut dyn Read) -> io::Result<Reply<Entry>> {
     let mut bytes = take(input, 2)?;
     if bytes.is_empty() {
-        return Ok(Ok(None));
+        return Ok(Ok(Entry::End));
     }
     if bytes.len() < 2 {
         return Ok(Err(CUT));
+    }
+    if version.gaps && two(&bytes, 0) == 0 {
+        return Ok(Ok(Entry::Gap));
     }
     if two(&bytes, 0) != 20 {
         return Ok(Err(LENGTH));
@@ -137,7 +152,7 @@ pub fn record(input: &mut dyn Read) -> io::Result<Reply<Option<Figures>>> {
         return Ok(Err(CUT));
     }
     let figures = five(&bytes, 2);
-    Ok(if chain::accepted(&figures) { Ok(Some(figures)) } else { Err(FIGURE) })
+    Ok(if chain::accepted(&figures) { Ok(Entry::Frame(figures)) } else { Err(FIGURE) })
 }
 
 /// "hundredths of the exact value, cut toward zero", "zero never signed". The value is a whole number
@@ -166,12 +181,46 @@ pub fn hundredths(bits: u32) -> i128 {
 #[derive(Default)]
 pub struct Seen {
     pub lines: usize,
-    /// Lines of the kinds N, W and P.
-    pub kinds: [usize; 3],
+    /// Lines of the kinds N, W, P and G.
+    pub kinds: [usize; 4],
+    /// Gaps behind so many frames of speech in a row: T - 1, T and T + 1; and gaps behind a gap, and before all frames.
+    pub gaps: [usize; 5],
     /// The record that is refused, or 0 for the head, and the reply's number.
     pub refused: Option<(usize, u32)>,
     /// The version and the threshold of a head that is not refused.
     pub head: Option<(u8, u32)>,
+}
+
+/// The kind of a gap's line.
+pub const GAP: usize = 3;
+
+/// What stands before a record: how many frames of speech in a row, whether a gap, and whether any frame.
+#[derive(Default)]
+struct Before {
+    speech: u32,
+    gap: bool,
+    frames: bool,
+}
+
+impl Before {
+    fn frame(&mut self, speech: bool) {
+        let speech = if speech { self.speech + 1 } else { 0 };
+        *self = Before {
+            speech,
+            gap: false,
+            frames: true,
+        };
+    }
+
+    fn gap(&mut self, threshold: u32, gaps: &mut [usize; 5]) {
+        let after = |n: u32| self.speech > 0 && self.speech == n;
+        let all = [after(threshold - 1), after(threshold), after(threshold + 1), self.gap, !self.frames];
+        for (count, one) in gaps.iter_mut().zip(all) {
+            *count += one as usize;
+        }
+        self.speech = 0;
+        self.gap = true;
+    }
 }
 
 /// Reads a strip, and writes what the program must print for it.
@@ -182,26 +231,35 @@ pub fn print(input: &mut dyn Read, output: &mut dyn Write) -> io::Result<Seen> {
         Err(reply) => reply,
         Ok(head) => {
             let mut chain = ruled::Chain::new(&head.settings, head.threshold, head.samples);
-            seen.head = Some((head.version, head.threshold));
-            let mut run = 0;
+            seen.head = Some((head.version.number, head.threshold));
+            let mut run: u32 = 0;
+            let mut before = Before::default();
             loop {
                 number += 1;
-                let figures = match record(input)? {
-                    Ok(Some(figures)) => figures,
-                    Ok(None) => break DONE,
+                let kind = match record(head.version, input)? {
+                    Ok(Entry::End) => break DONE,
                     Err(reply) => break reply,
+                    Ok(Entry::Gap) => {
+                        chain.gap(&LOST[number % LOST.len()]);
+                        run = 0;
+                        before.gap(head.threshold, &mut seen.gaps);
+                        GAP
+                    }
+                    Ok(Entry::Frame(figures)) => {
+                        chain.step(&figures, &mut [vec![0.0; head.samples as usize]]);
+                        let speech = judge::is_speech(f32::from_bits(figures[0]));
+                        run = if speech { (run + 1).min(head.threshold) } else { 0 };
+                        before.frame(speech);
+                        speech as usize + (run == head.threshold) as usize
+                    }
                 };
-                chain.step(&figures, &mut [vec![0.0; head.samples as usize]]);
-                let speech = judge::is_speech(f32::from_bits(figures[0]));
-                run = if speech { (run + 1).min(head.threshold) } else { 0 };
-                let kind = speech as usize + (run == head.threshold) as usize;
                 let [level, headroom, confident, gain] =
                     chain.published().unwrap_or_else(|| panic!("the Rust's controller shows no gain"));
                 writeln!(
                     output,
                     "{} {} {} {} {} {}",
                     number,
-                    ["N", "W", "P"][kind],
+                    ["N", "W", "P", "G"][kind],
                     hundredths(level),
                     hundredths(headroom),
                     hundredths(gain),

@@ -1,6 +1,7 @@
 //! Strips for the program `strip`, each run through it once and compared byte for byte with what strip.rs
 //! has: fixed ones, in which each thing that a strip can have wrong stands alone, and random ones, which are
-//! whole services and damaged ones. About half of them are of version 1, and half of version 2.
+//! whole services and damaged ones. About half of them are of version 1, and half of version 2; of those of version 2 about
+//! half have gaps.
 //!
 //! A random strip depends on the seed and on its own number alone, so a run finds the same strips whatever
 //! the number of cores.
@@ -36,6 +37,9 @@ fn record(figures: &Figures) -> Vec<u8> {
     all.extend(figures.iter().flat_map(|b| b.to_be_bytes()));
     all
 }
+
+/// A record of length 0, which is a gap in version 2.
+const GAP: [u8; 2] = [0, 0];
 
 fn with(strip: &[u8], at: usize, byte: u8) -> Vec<u8> {
     let mut all = strip.to_vec();
@@ -137,6 +141,67 @@ fn fixed_records(version: &Version, all: &mut Vec<Case>) {
     }
 }
 
+/// Records, each of which a letter stands for: s is speech, n is none, and g is a gap.
+fn spelled(letters: &str) -> Vec<u8> {
+    let mut pause = chain::GOOD;
+    pause[0] = 0;
+    let one = |letter| match letter {
+        's' => record(&chain::GOOD),
+        'n' => record(&pause),
+        _ => GAP.to_vec(),
+    };
+    letters.chars().flat_map(one).collect()
+}
+
+/// Gaps: at the start, at the end, between frames of each kind, in a row, alone; after runs around the threshold, beside the
+/// same runs without a gap; at each place of the blocks in which a strip is read; cut, damaged, and in version 1.
+fn fixed_gaps(all: &mut Vec<Case>) {
+    let [one, two] = &VERSIONS;
+    let start = |version: &Version, threshold: u32| head(version, threshold, 40, Settings::USUAL);
+    for letters in ["g", "gg", "gs", "sg", "sgs", "sgss", "ssgs", "ssgss", "sggs", "gsgsg", "ngn", "sgn", "ngs", "ssgn", "sgnss", "gnsgssg"] {
+        for threshold in 1..=3 {
+            all.push(("gaps", [start(two, threshold), spelled(letters)].concat()));
+        }
+        all.push(("a length of 0 in version 1", [start(one, 2), spelled(letters)].concat()));
+    }
+    for t in [1, 2, 3, 12, 40, 41, 200, 201, 256, judge::LARGEST_THRESHOLD] {
+        let speech = |n: u32| record(&chain::GOOD).repeat(n as usize);
+        for (before, after) in [(t - 1, t - 1), (t - 1, t), (t, t - 1), (t, t), (t + 1, t + 1), (t + 50, 2)] {
+            all.push(("a run, a gap and a run", [start(two, t), speech(before), GAP.to_vec(), speech(after)].concat()));
+            // The run goes on where no gap is.
+            if (before, after) == (t - 1, t - 1) {
+                all.push(("the same run without a gap", [start(two, t), speech(2 * t - 2)].concat()));
+            }
+        }
+    }
+    // Each block of 4096 bytes then ends in another place of a record, or in the middle of a gap.
+    for n in [0, 1, 2, 3, 4, 5, 6, 7, 8, 9, 10, 11, 2034, 2035, 5000] {
+        all.push(("many gaps", [start(two, 3), GAP.repeat(n), spelled(&"ssgn".repeat(100))].concat()));
+    }
+    all.push(("many gaps alone", [start(two, 3), GAP.repeat(40_000)].concat()));
+    all.push(("half a gap behind many", [start(two, 3), GAP.repeat(5000), vec![0]].concat()));
+    let few = [start(two, 2), spelled("gsggsg")].concat();
+    let first = two.head();
+    all.extend((first..=few.len()).map(|n| ("gaps, cut at each byte", few[..n].to_vec())));
+    for at in [first, first + 24, first + 26, few.len() - 2] {
+        for bit in 0..16 {
+            let byte = at + bit / 8;
+            all.push(("each bit of a gap flipped", with(&few, byte, few[byte] ^ 1 << (bit % 8))));
+        }
+    }
+    for [high, low] in [[0, 1], [0, 2], [0, 19], [0, 21], [1, 0], [20, 0], [255, 255]] {
+        all.push(("a record's length behind a gap", [start(two, 2), spelled("sg"), vec![high, low], spelled("s")].concat()));
+    }
+    for n in [1, 2, 3, 21] {
+        all.push(("a record that is cut behind a gap", [start(two, 2), spelled("sg"), spelled("s")[..n].to_vec()].concat()));
+    }
+    for version in &VERSIONS {
+        all.push(("half a gap", [start(version, 2), spelled("s"), vec![0]].concat()));
+        all.push(("half a gap alone", [start(version, 2), vec![0]].concat()));
+        all.push(("half a gap before a record", [start(version, 2), vec![0], spelled("s")].concat()));
+    }
+}
+
 fn fixed() -> Vec<Case> {
     let mut all: Vec<Case> = VERSIONS.iter().map(|version| ("the paper's strip", paper(version))).collect();
     // More than a pipe holds, in both directions.
@@ -151,6 +216,7 @@ fn fixed() -> Vec<Case> {
         fixed_records(version, &mut all);
     }
     fixed_starts(&mut all);
+    fixed_gaps(&mut all);
     for version in &VERSIONS {
         let few = &paper(version)[..version.head() + 2 * RECORD];
         for n in 0..=few.len() {
@@ -221,6 +287,31 @@ fn steady(records: usize, mut level: impl FnMut(usize, &mut Random) -> f32, sour
     all
 }
 
+/// The same records with gaps among them: here and there, at the start and at the end, one or several in a row, and more often
+/// than elsewhere after as many frames of speech as the threshold is, one fewer and one more.
+fn with_gaps(threshold: u32, records: &[u8], source: &mut Random) -> Vec<u8> {
+    let often = one_of(&[2, 8, 40, 400], source);
+    let some = |most: u32, source: &mut Random| match source.up_to(most) {
+        0 => GAP.repeat(one_of(&[1, 1, 1, 1, 2, 2, 3, 12], source)),
+        _ => Vec::new(),
+    };
+    let mut all = some(3, source);
+    let mut run = 0;
+    for record in records.chunks(RECORD) {
+        all.extend(record);
+        let probability = u32::from_be_bytes([record[2], record[3], record[4], record[5]]);
+        run = if judge::is_speech(f32::from_bits(probability)) { run + 1 } else { 0 };
+        let near = run > 0 && (run + 1 == threshold || run == threshold || run == threshold + 1);
+        let gaps = some(if near { 2 } else { often }, source);
+        if !gaps.is_empty() {
+            all.extend(gaps);
+            run = 0;
+        }
+    }
+    all.extend(some(3, source));
+    all
+}
+
 /// A threshold that a version can say.
 fn any_threshold(version: &Version, source: &mut Random) -> u32 {
     let all: Vec<u32> = judge::THRESHOLDS.iter().chain(&HEAD_THRESHOLDS).copied().collect();
@@ -263,6 +354,7 @@ fn service(source: &mut Random) -> (&'static Version, Case) {
         4 => ("a service with peaks near its speech", passages(threshold, records, true, source)),
         _ => ("a service", passages(threshold, records, false, source)),
     };
+    let rest = if version.gaps && source.up_to(1) == 0 { with_gaps(threshold, &rest, source) } else { rest };
     (version, (what, [head(version, threshold, samples, settings), rest].concat()))
 }
 
@@ -271,12 +363,29 @@ fn place(strip: &[u8], source: &mut Random) -> usize {
     source.up_to(strip.len() as u32) as usize
 }
 
-/// The place of a whole record of a strip whose head has so many bytes, and none where it has no record.
-fn any_record(head: usize, strip: &[u8], source: &mut Random) -> Option<usize> {
-    match (strip.len() - head) / RECORD {
-        0 => None,
-        n => Some(head + RECORD * source.up_to(n as u32 - 1) as usize),
+/// Where the records of a strip begin that is accepted, each with whether it is a gap.
+fn places(version: &Version, strip: &[u8]) -> Vec<(usize, bool)> {
+    let (mut at, mut all) = (version.head(), Vec::new());
+    while at < strip.len() {
+        let gap = version.gaps && strip[at..].starts_with(&GAP);
+        all.push((at, gap));
+        at += if gap { GAP.len() } else { RECORD };
     }
+    all
+}
+
+/// The place of a record of figures, and none where a strip has none.
+fn any_record(version: &Version, strip: &[u8], source: &mut Random) -> Option<usize> {
+    let mut all = places(version, strip);
+    all.retain(|&(_, gap)| !gap);
+    (!all.is_empty()).then(|| one_of(&all, source).0)
+}
+
+/// Where a record begins, or the last one ends.
+fn between_records(version: &Version, strip: &[u8], source: &mut Random) -> usize {
+    let mut all = places(version, strip);
+    all.push((strip.len(), false));
+    one_of(&all, source).0
 }
 
 /// No number or an infinity, in any of its forms.
@@ -288,7 +397,7 @@ fn no_number(source: &mut Random) -> u32 {
 fn damaged(source: &mut Random) -> Case {
     let (version, (_, mut strip)) = service(source);
     let head = version.head();
-    match source.up_to(14) {
+    match source.up_to(17) {
         0 | 1 => {
             strip.truncate(place(&strip, source));
             ("cut", strip)
@@ -313,7 +422,7 @@ fn damaged(source: &mut Random) -> Case {
             ("dropped bytes", strip)
         }
         5 | 6 => {
-            if let Some(at) = any_record(head, &strip, source) {
+            if let Some(at) = any_record(version, &strip, source) {
                 let i = source.up_to(4) as usize;
                 let bits = if source.up_to(1) == 0 { no_number(source) } else { one_of(RANGES[i].wrong, source) };
                 strip[at + 2 + 4 * i..at + 6 + 4 * i].copy_from_slice(&bits.to_be_bytes());
@@ -321,7 +430,7 @@ fn damaged(source: &mut Random) -> Case {
             ("a figure that is refused", strip)
         }
         7 => {
-            if let Some(at) = any_record(head, &strip, source) {
+            if let Some(at) = any_record(version, &strip, source) {
                 strip[at + source.up_to(1) as usize] = source.next() as u8;
             }
             ("a record's length", strip)
@@ -355,6 +464,22 @@ fn damaged(source: &mut Random) -> Case {
             strip.truncate(source.up_to(27) as usize);
             strip.iter_mut().skip(2).take(1).for_each(|byte| *byte = one_of(&[1, 2, 2, 1, 0, 3], source));
             ("a head that is cut", strip)
+        }
+        14 => {
+            let at = between_records(version, &strip, source);
+            strip.splice(at..at, GAP.repeat(1 + source.up_to(2) as usize));
+            ("a length of 0", strip)
+        }
+        15 => {
+            let at = between_records(version, &strip, source);
+            strip.truncate(at);
+            strip.push(0);
+            ("cut after one byte of a record", strip)
+        }
+        16 => {
+            let at = between_records(version, &strip, source);
+            strip.insert(at, 0);
+            ("half a gap", strip)
         }
         _ => ("any bytes", (0..source.up_to(100)).map(|_| source.next() as u8).collect()),
     }
@@ -423,7 +548,8 @@ struct Tally {
     late: [usize; 2],
     records: usize,
     lines: usize,
-    kinds: [usize; 3],
+    kinds: [usize; 4],
+    gaps: [usize; 5],
     /// Refusals of a head and of a record, by number.
     refused: [[usize; 8]; 2],
     wrong: usize,
@@ -446,6 +572,9 @@ impl Tally {
         for (all, one) in self.kinds.iter_mut().zip(seen.kinds) {
             *all += one;
             self.records += one;
+        }
+        for (all, one) in self.gaps.iter_mut().zip(seen.gaps) {
+            *all += one;
         }
         if let Some((record, reply)) = seen.refused {
             self.refused[(record > 0) as usize][reply as usize] += 1;
@@ -532,8 +661,13 @@ pub fn compare(wish: &Wish) -> bool {
         }
     });
     let tally = tally.into_inner().unwrap_or_default();
-    let [n, w, p] = tally.kinds;
-    println!("  {} fixed strips, {} records: {} N, {} W, {} P", fixed.len(), tally.records, n, w, p);
+    let [n, w, p, g] = tally.kinds;
+    println!("  {} fixed strips, {} records: {} N, {} W, {} P, {} G", fixed.len(), tally.records, n, w, p, g);
+    let [short, at, past, behind, first] = tally.gaps;
+    println!(
+        "  of the gaps {} stand behind T - 1 frames of speech, {} behind T, {} behind T + 1, {} behind a gap, {} before all frames",
+        short, at, past, behind, first
+    );
     let ([one, two, neither], [first, second], [late, published]) = (tally.versions, tally.heads, tally.late);
     println!("  {} of version 1, {} of version 2, {} of neither; heads taken: {} and {}", one, two, neither, first, second);
     println!("  {} of the heads taken have T above 200, and {} lines behind them are P", late, published);

@@ -123,6 +123,15 @@ reader "a T of 255 taken in version 1" strip '(1..=version.largest)' '(1..=versi
 reader "a T of 3,001 taken in version 2" strip '(1..=version.largest)' '(1..=version.largest + version.largest / 3000)'
 reader "a T above 200 refused in version 2" strip '(1..=version.largest)' '(1..=200)'
 reader "a run count that is held at 200" strip '(run + 1).min(head.threshold)' '(run + 1).min(head.threshold.min(200))'
+reader "a gap taken in version 1" strip 'version.gaps && two(&bytes, 0) == 0' 'two(&bytes, 0) == 0'
+reader "a length of 0 refused in version 2" strip 'version.gaps && two(&bytes, 0) == 0' 'false'
+reader "a gap printed as N" strip '["N", "W", "P", "G"]' '["N", "W", "P", "N"]'
+reader "a gap that has no number" strip 'chain.gap(&LOST[number % LOST.len()])' '{ chain.gap(&LOST[0]); number -= 1 }'
+reader "a gap that has sound" strip 'chain.gap(&LOST[number % LOST.len()])' 'chain.step(&LOST[0], &mut [vec![0.0; head.samples as usize]])'
+reader "a gap after which speech goes on to count" strip 'run = 0' '()'
+reader "a gap that leaves the run of the level open" chain ' level.update(rms, p)' '()'
+reader "a gap that leaves the run of the headroom open" chain ' protector.analyze(p, peak, level.level_dbfs())' '()'
+reader "a gap that leaves the waiting count" chain ' controller.gap()' '()'
 # Answers that are wrong from some frame on, or to some states.
 slip "a run count of the level that is held at 200" oracle/speech '(self.count + 1).min(t)' '(self.count + 1).min(t.min(200))'
 slip "a run count of the protector that is held at 200" oracle/protector '(self.count + 1).min(t)' '(self.count + 1).min(t.min(200))'
@@ -130,6 +139,15 @@ slip "a first step of 200 changes at most" oracle/controller 'self.change * self
 slip "waiting for 200 frames at most" oracle/controller 'self.waiting -= 1' 'self.waiting = self.waiting.min(200) - 1'
 slip "a threshold of 3,001 taken" oracle/judge '(1..=LARGEST_THRESHOLD)' '(1..=LARGEST_THRESHOLD + 1)'
 slip "that a refused frame ends a run" oracle/chain 'frame.untouched()' '{ if reply == FIGURE { self.state.speech.count = 0; } frame.untouched() }'
+slip "a gap after which the level's run goes on" oracle/speech 'self.update(0.0, 0.0)' '()'
+slip "a gap that keeps a short run" oracle/speech 'self.update(0.0, 0.0)' '{ self.reliable = self.preliminary; self.count = 0 }'
+slip "a gap in a level that fails its test" oracle/speech 'before.passes()' 'true'
+slip "a gap after which the headroom's run goes on" oracle/protector 'self.analyze(0.0, 0.0, 0.0)' 'false'
+slip "a gap in a headroom that fails its test" oracle/protector 'before.passes()' 'true'
+slip "a gap after which the gain need not wait" oracle/controller 'self.waiting = t' '()'
+slip "a gap in a gain that fails its test" oracle/controller 'before.passes()' 'true'
+slip "a gap in a chain that fails its test" oracle/chain 'self.put("chain.gap", &[], reply, [0; 4], &[], to)' 'self.put("chain.gap", &[], DONE, [0; 4], &[], to)'
+slip "a gap that moves the gain" oracle/chain 'self.controller.gap()' '{ self.controller.gap(); self.controller.gain *= 0.999 }'
 slip "a peak that is pushed a frame early" oracle/protector 'self.elapsed > 400' 'self.elapsed >= 400'
 slip "a cough that leaves a trace" oracle/speech 'self.preliminary = self.reliable' 'self.preliminary.left = self.reliable.left'
 # A slip in each part of the Rust that judges.
@@ -186,6 +204,17 @@ makes chain "a run count of the protector that is held at 200"
 makes chain "a first step of 200 changes at most"
 for part in speech protector controller chain; do makes "$part" "a threshold of 3,001 taken" --brief; done
 makes chain "that a refused frame ends a run" --brief
+makes speech "a gap after which the level's run goes on" --brief
+makes speech "a gap that keeps a short run" --brief
+makes speech "a gap in a level that fails its test" --brief
+makes protector "a gap after which the headroom's run goes on" --brief
+makes protector "a gap in a headroom that fails its test" --brief
+makes controller "a gap after which the gain need not wait" --brief
+makes controller "a gap in a gain that fails its test" --brief
+for slip in "a gap after which the level's run goes on" "a gap that keeps a short run" "a gap after which the headroom's run goes on" \
+    "a gap after which the gain need not wait" "a gap that moves the gain" "a gap in a chain that fails its test"; do
+    makes chain "$slip" --brief
+done
 
 # The test of a handed-in state: of each clause of each part's test there are questions that a program without that clause answers
 # wrongly. The wrong program is the oracle's own answers, by a test without the clause; and the sound program is asked the same.
@@ -205,9 +234,9 @@ same "speech: the short comparison finds a test without a clause" 1 \
     "$(target/oracle/oracle compare --only speech --first --short -- target/oracle/oracle replay --without 'speech reliable sum' >/dev/null 2>&1; echo $?)"
 same "chain: the short comparison finds parts that are not alike in a setting" 1 \
     "$(target/oracle/oracle compare --only chain --first --short -- target/oracle/oracle replay --without 'chain output noise' >/dev/null 2>&1; echo $?)"
-# A refused frame in the middle of a service, in the chain's answers: the first that is refused after the 3500th line, which lies
+# A refused frame in the middle of a service, in the chain's answers: the first that is refused after the 4300th line, which lies
 # among the services. It must not be told as accepted, and it must give its samples back.
-refused() { echo "awk 'NR > 3500 && /^0000000[123] 00000001/ && !done { done = 1; $1 } { print }'"; } # CHANGE
+refused() { echo "awk 'NR > 4300 && /^0000000[123] 00000001/ && !done { done = 1; $1 } { print }'"; } # CHANGE
 same "chain: it finds a refused frame in a service that is said to be accepted" 1 \
     "$(through chain "$(refused 'sub(/^0000000./, "00000000")')")"
 same "chain: it finds a refused frame in a service whose samples are altered" 1 \

@@ -16,7 +16,7 @@ for file in "$room"/some/*.wav; do
 done >"$room/digests"
 same_file "the stored digests of levelled recordings are the oracle's" tests/some-recordings.sha256 "$room/digests"
 
-# Noise of a second and a half, quiet and loud, with strips of version 2 and 1 in turn.
+# Noise of a second and a half, quiet and loud, with strips of version 2 and 1 in turn, and 20 gaps in every second one of version 2.
 seed=0 frames=0
 : >"$room/apart"
 for rate in 8000 48000; do
@@ -28,7 +28,7 @@ for rate in 8000 48000; do
             records=$(((samples + part - 1) / part))
             frames=$((frames + records))
             tests/wav-maker --rate $rate --channels $channels --samples $samples --loud $loud --seed $seed >"$room/in.wav"
-            tests/random-strip $seed $part $records $((1 + seed % 2)) >"$room/strip"
+            tests/random-strip $seed $part $records $((1 + seed % 2)) $((seed % 4 == 1 ? 20 : 0)) >"$room/strip"
             target/oracle/oracle recording "$room/strip" <"$room/in.wav" >"$room/due" 2>>"$room/apart"
             tests/run-program recording "$room/strip" <"$room/in.wav" >"$room/got" 2>>"$room/apart"
             same "seed $seed: so many bytes" $((44 + 2 * channels * samples)) "$(wc -c <"$room/due")" | grep '^not ok' >>"$room/apart"
@@ -36,5 +36,5 @@ for rate in 8000 48000; do
         done
     done
 done
-same "recording: $seed recordings of noise, $frames frames of 1, 2 and 8 channels at 8000 and 48000 Hz, strips of both versions, as the ruled Rust has them" \
+same "recording: $seed recordings of noise, $frames frames of 1, 2 and 8 channels at 8000 and 48000 Hz, strips of both versions, with gaps in version 2, as the ruled Rust has them" \
     "" "$(cat "$room/apart")"

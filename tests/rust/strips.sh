@@ -20,3 +20,6 @@ same "strip: 1000 strips or more and 1000 heads taken are of each version, and 1
     "$(sed -n 's/^  \([0-9]*\) of version 1, \([0-9]*\) of version 2, .* heads taken: \([0-9]*\) and \([0-9]*\)$/\1 \2 \3 \4/p
         s/^  .* have T above 200, and \([0-9]*\) lines behind them are P$/\1/p' "$room/said" |
         xargs -n 1 | awk '$1 >= 1000 { enough++ } END { print enough + 0 " of " NR }')"
+same "strip: 400 gaps or more stand behind T - 1, T and T + 1 frames of speech each, behind a gap and before all frames" "5 of 5" \
+    "$(sed -n 's/^  of the gaps \([0-9]*\) stand behind T - 1 frames of speech, \([0-9]*\) behind T, \([0-9]*\) behind T + 1, \([0-9]*\) behind a gap, \([0-9]*\) before all frames$/\1 \2 \3 \4 \5/p' "$room/said" |
+        xargs -n 1 | awk '$1 >= 400 { enough++ } END { print enough + 0 " of " NR }')"

@@ -5,6 +5,7 @@
 //   controller.process FRAME              between its two first figures and its samples stand what is
 //                                         known of the frame: the probability, the level of the speech and
 //                                         whether it is trusted, the noise, the headroom and the envelope
+//   controller.gap
 //
 // Each answer shows the state, which is fourteen figures (the applier's five, the five settings, the
 // threshold, the change in a frame, how many speech frames are still to come, and the gain in dB); and
@@ -48,12 +49,15 @@ const REST: usize = SETTINGS + speech::SETTINGS;
 const KNOWN: usize = 2;
 
 // The names, as `lines::seek` takes them: a letter, how many figures the name takes, and the name.
-pub const NAMES: [u8; 58] = *b"n6=controller.new s*=controller.set p8+controller.process ";
+pub const NAMES: [u8; 76] =
+    *b"n6=controller.new s*=controller.set p8+controller.process g0=controller.gap ";
 
 // The letters.
 const NEW: u8 = b'n';
 
 const PROCESS: u8 = b'p';
+
+const GAP: u8 = b'g';
 
 // What is known of a frame, whose figures stand at a place.
 fn info(all: &Desk, from: usize) -> Info {
@@ -118,6 +122,8 @@ fn next(word: u8, given: Given, desk: &Desk, frame: &mut [f32]) -> Next {
         let known = info(desk, KNOWN);
         let channels = figures::wide(given.first);
         read(desk, FROM).process(known, frame, channels, figures::wide(given.second))
+    } else if word == GAP {
+        read(desk, FROM).gap()
     } else {
         Next {
             reply: DONE,

@@ -4,6 +4,7 @@
 //   protector.set STATE               the protector with this state
 //   protector.analyze PROBABILITY PEAK LEVEL
 //   protector.reset
+//   protector.gap
 //
 // Each answer shows the state, which is twenty-two figures (the headroom to start with, the threshold, the
 // count of adjacent speech frames, the published headroom, and then the preliminary state and the reliable
@@ -53,8 +54,8 @@ const RELIABLE: usize = PRELIMINARY + PEAKS;
 const REST: usize = 3;
 
 // The names, as `lines::seek` takes them: a letter, how many figures the name takes, and the name.
-pub const NAMES: [u8; 74] =
-    *b"n2=protector.new s*=protector.set a3=protector.analyze r0=protector.reset ";
+pub const NAMES: [u8; 91] =
+    *b"n2=protector.new s*=protector.set a3=protector.analyze r0=protector.reset g0=protector.gap ";
 
 // The letters.
 const NEW: u8 = b'n';
@@ -64,6 +65,8 @@ const SET: u8 = b's';
 const ANALYZE: u8 = b'a';
 
 const RESET: u8 = b'r';
+
+const GAP: u8 = b'g';
 
 // The state whose figures stand at a place.
 fn peaks(all: &Desk, from: usize) -> Peaks {
@@ -139,6 +142,8 @@ fn next(word: u8, protector: Protector, given: Given) -> Next {
         )
     } else if word == RESET {
         protector.reset()
+    } else if word == GAP {
+        protector.gap()
     } else {
         Next {
             reply: DONE,

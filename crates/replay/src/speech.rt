@@ -4,6 +4,7 @@
 //   speech.set STATE                  the estimator with this state
 //   speech.update RMS PROBABILITY
 //   speech.reset
+//   speech.gap
 //
 // Each answer shows the state, which is sixteen figures (the five settings, the threshold, the level to
 // start with, the preliminary average and the reliable one, each as time left, sum and weight, the
@@ -42,7 +43,8 @@ pub const END: usize = FROM + SHOWN;
 pub const SETTINGS: usize = 5;
 
 // The names, as `lines::seek` takes them: a letter, how many figures the name takes, and the name.
-pub const NAMES: [u8; 61] = *b"n6=speech.new s*=speech.set u2=speech.update r0=speech.reset ";
+pub const NAMES: [u8; 75] =
+    *b"n6=speech.new s*=speech.set u2=speech.update r0=speech.reset g0=speech.gap ";
 
 // The letters.
 const NEW: u8 = b'n';
@@ -52,6 +54,8 @@ const SET: u8 = b's';
 const UPDATE: u8 = b'u';
 
 const RESET: u8 = b'r';
+
+const GAP: u8 = b'g';
 
 // The settings whose figures stand at a place.
 pub(crate) fn settings(all: &Desk, from: usize) -> Settings {
@@ -134,6 +138,8 @@ fn next(word: u8, estimator: Estimator, given: Given) -> Next {
         )
     } else if word == RESET {
         estimator.reset()
+    } else if word == GAP {
+        estimator.gap()
     } else {
         Next {
             reply: DONE,

@@ -7,6 +7,7 @@
 //   chain.step FRAME                      between its two first figures and its samples stand the frame's
 //                                         five: the probability, the rms level, the peak, the noise and
 //                                         the envelope
+//   chain.gap                             frames were lost: answered as a frame that is no speech, without samples
 //   chain.state                           what each call says that only looks at the chain, and its state
 //
 // Each answer tells whether the chain passes, what the frame was (0 no speech, 1 waiting, 2 publishing), how
@@ -29,6 +30,7 @@ use crate::protector;
 use crate::speech;
 use chain::Answer;
 use chain::Chain;
+use chain::Gapped;
 use chain::Made;
 use chain::Next;
 use units::figures::Figures;
@@ -62,7 +64,8 @@ const LOOKS: usize = RESULTS + 3;
 const KNOWN: usize = 2;
 
 // The names, as `lines::seek` takes them: a letter, how many figures the name takes, and the name.
-pub const NAMES: [u8; 55] = *b"n7=chain.new s*=chain.set f7+chain.step l0=chain.state ";
+pub const NAMES: [u8; 68] =
+    *b"n7=chain.new s*=chain.set f7+chain.step g0=chain.gap l0=chain.state ";
 
 // The letters.
 const NEW: u8 = b'n';
@@ -70,6 +73,8 @@ const NEW: u8 = b'n';
 const SET: u8 = b's';
 
 const STEP: u8 = b'f';
+
+const GAP: u8 = b'g';
 
 const LOOK: u8 = b'l';
 
@@ -166,12 +171,24 @@ fn started(a: Made) -> Next {
     }
 }
 
+// What is answered to a gap, which is no frame.
+fn interrupted(a: Gapped) -> Next {
+    let chain = a.chain;
+    Next {
+        reply: a.reply,
+        answer: Answer::NonSpeech,
+        chain,
+    }
+}
+
 // The reply to a question without a frame, and the chain after it.
 fn still(word: u8, desk: &Desk) -> Next {
     if word == NEW {
         let threshold = figures::word(desk, ASKED, speech::SETTINGS);
         let samples = figures::count(desk, ASKED, speech::SETTINGS + 1);
         started(Chain::new(speech::settings(desk, ASKED), threshold, samples))
+    } else if word == GAP {
+        interrupted(read(desk, false).gap())
     } else {
         Next {
             reply: DONE,
