@@ -89,6 +89,10 @@ headOf v ns =
           };
     }
 
+-- the same head in another version
+unfoldable pub inVersion : Version → Head → Head
+inVersion v h = record { version = v; threshold = h .threshold; samples = h .samples; settings = h .settings }
+
 -- ---- "Records: 2-byte length 20, then probability, rms, peak, noise, envelope"
 abbrev pub recordFields : List ℕ
 recordFields = 2 ∷ floatFields

@@ -141,7 +141,7 @@ fn has_gaps(version: Version) -> bool
 }
 
 // The bytes of a whole head.
-fn head_size(version: Version) -> usize
+pub fn head_size(version: Version) -> usize
     ensures { λ r. ⌜ r ≡ size (headFields version) ⌝ }
     ensures { λ r. ⌜ r ≤ 27 ⌝ }
 {
@@ -320,19 +320,26 @@ fn head_place(version: Version, strip: &[u8]) -> u32
     }
 }
 
-// The head that a strip begins with, in the version that it says. Refused, in this order, are fewer than 3 bytes
-// with 5, a version that is neither 1 nor 2 with 7, another length than the version's with 6, a head that is cut with
-// 5, samples with 1, and settings or a threshold that the version cannot say with 4.
-pub fn read_head(strip: &[u8]) -> HeadRead
-    ensures { λ r. ⌜ r ≡ readHead (versionOf (now (strip .entry))) (now (strip .entry)) ⌝ }
+// The head that a strip of a version begins with. Refused, in this order, are fewer than 3 bytes with 5, another version
+// with 7, another length than the version's with 6, a head that is cut with 5, samples with 1, and settings or a
+// threshold that the version cannot say with 4.
+pub fn read_head_in(version: Version, strip: &[u8]) -> HeadRead
+    ensures { λ r. ⌜ r ≡ readHead version (now (strip .entry)) ⌝ }
 {
-    let version = version_of(strip);
     let place = head_place(version, strip);
     if place == DONE {
         judged_head(head_at(version, strip))
     } else {
         refused_head(place)
     }
+}
+
+// The head that a strip begins with, in the version that it says. The refusals are the same; 7 is for a version that is
+// neither 1 nor 2.
+pub fn read_head(strip: &[u8]) -> HeadRead
+    ensures { λ r. ⌜ r ≡ readHead (versionOf (now (strip .entry))) (now (strip .entry)) ⌝ }
+{
+    read_head_in(version_of(strip), strip)
 }
 
 // The refusals of a record that come before its figures: a single byte, the length, a record that is cut.

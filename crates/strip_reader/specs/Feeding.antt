@@ -6,7 +6,7 @@ use lib.Dec.{eqb}
 use Rattle.units.specs.Replies.{done}
 use Rattle.strip_format.specs.Format.{Entry}
 use Rattle.strip_format.specs.Whole.{Strip}
-use Rattle.strip_reader.specs.Reader.{Handed, more, head, entry, end, refused, isMore, fed, finished, fresh}
+use Rattle.strip_reader.specs.Reader.{Handed, head, entry, end, refused, isMore, fed, finished}
 use Rattle.strip_reader.specs.declared.Reader.{Reader}
 
 -- what came out, in its order, and the reader that goes on
@@ -42,10 +42,10 @@ unfoldable pub whole : List (List ℕ) → List ℕ
 whole [] = []
 whole (block ∷ blocks) = block ++ whole blocks
 
--- what a reader hands out of a strip that comes in such blocks
-unfoldable pub handedOut : List (List ℕ) → List Handed
-unfolding feedBlocks finished joins fresh
-handedOut blocks = let f = feedBlocks fresh blocks in f .out ++ joins (finished (f .reader)) []
+-- what a reader hands out of a strip that comes in such blocks and then ends
+unfoldable pub handedOut : Reader → List (List ℕ) → List Handed
+unfolding feedBlocks finished joins
+handedOut r blocks = let f = feedBlocks r blocks in f .out ++ joins (finished (f .reader)) []
 
 -- ---- what a whole strip has
 -- "no byte, end", or what the next record is refused with

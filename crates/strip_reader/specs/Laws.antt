@@ -2,3 +2,4 @@
 pub mod Steps
 pub mod Pieces
 pub mod Whole
+pub mod Telling

@@ -57,9 +57,22 @@ atRecords = 1
 abbrev pub over : ℕ
 over = 2
 
--- before the head the version is not known: 1 stands there
+-- a reader that has seen no byte: of a strip of one version, or of any, and then 1 stands in the version's place until the head is known
+unfoldable pub begun : Bool → Version → Reader
+begun any v = record { held = replicate room 0; count = 0; stage = atHead; any = any; version = v }
+
 unfoldable pub fresh : Reader
-fresh = record { held = replicate room 0; count = 0; stage = atHead; version = One }
+unfolding begun
+fresh = begun true One
+
+unfoldable pub freshIn : Version → Reader
+unfolding begun
+freshIn v = begun false v
+
+-- the version that a head is read in: that which it says, where any is taken, and otherwise the reader's
+unfoldable pub asked : Bool → Version → List ℕ → Version
+unfolding versionOf
+asked any v bytes = cond any (versionOf bytes) v
 
 -- there is room for one more byte, and what it waits for is one of the three
 unfoldable pub passes : Reader → Bool
@@ -75,38 +88,38 @@ unfoldable pub stepOf : Step → Fed
 unfolding handed
 stepOf s = record { reader = s .reader; got = handed (s .got) }
 
--- a head whose bytes are not all there is waited for; one that is accepted comes out, and its version stands from there on; one that is refused ends the
--- strip
-unfoldable pub headFed : List ℕ → ℕ → HeadRead → Fed
-headFed held count read =
-    let version = read .head .version in
-    cond (eqb (read .reply) cut) (record { reader = record { held = held; count = count; stage = atHead; version = version }; got = more })
-    (cond (eqb (read .reply) done) (record { reader = record { held = held; count = 0; stage = atRecords; version = version }; got = head (read .head) })
-    (record { reader = record { held = held; count = 0; stage = over; version = version }; got = refused (read .reply) }))
+-- so many bytes are held with the last one. A head whose bytes are not all there is waited for; one that is accepted comes out, and its version stands from
+-- there on; one that is refused ends the strip
+unfoldable pub headFed : Reader → List ℕ → ℕ → HeadRead → Fed
+headFed r held count read =
+    cond (eqb (read .reply) cut) (record { reader = record { held = held; count = count; stage = atHead; any = r .any; version = r .version }; got = more })
+    (cond (eqb (read .reply) done)
+    (record { reader = record { held = held; count = 0; stage = atRecords; any = r .any; version = read .head .version }; got = head (read .head) })
+    (record { reader = record { held = held; count = 0; stage = over; any = r .any; version = r .version }; got = refused (read .reply) }))
 
 -- a record that was found comes out; where there is none it is refused
-unfoldable pub recordFound : Version → List ℕ → ℕ → List Entry → Fed
-recordFound version held reply [] = record { reader = record { held = held; count = 0; stage = over; version = version }; got = refused reply }
-recordFound version held reply (e ∷ es) = record { reader = record { held = held; count = 0; stage = atRecords; version = version }; got = entry e }
+unfoldable pub recordFound : Reader → List ℕ → ℕ → List Entry → Fed
+recordFound r held reply [] = record { reader = record { held = held; count = 0; stage = over; any = r .any; version = r .version }; got = refused reply }
+recordFound r held reply (e ∷ es) = record { reader = record { held = held; count = 0; stage = atRecords; any = r .any; version = r .version }; got = entry e }
 
 -- the same of a record as of a head
-unfoldable pub recordFed : Version → List ℕ → ℕ → Read → Fed
+unfoldable pub recordFed : Reader → List ℕ → ℕ → Read → Fed
 unfolding recordFound
-recordFed version held count read =
-    cond (eqb (read .reply) cut) (record { reader = record { held = held; count = count; stage = atRecords; version = version }; got = more })
-    (recordFound version held (read .reply) (read .found))
+recordFed r held count read =
+    cond (eqb (read .reply) cut) (record { reader = record { held = held; count = count; stage = atRecords; any = r .any; version = r .version }; got = more })
+    (recordFound r held (read .reply) (read .found))
 
--- the byte is held behind the others, and what they are together is read: a head in the version that it says, a record in the head's
+-- the byte is held behind the others, and what they are together is read: a head in the version that is asked for, a record in the head's
 unfoldable pub fed : Reader → ℕ → Fed
-unfolding passes headFed recordFed readHead readRecord versionOf
+unfolding passes headFed recordFed readHead readRecord asked
 fed r byte =
     let held = set (r .held) (r .count) byte in
     let bytes = take (r .count + 1) held in
     cond (passes r)
     (cond (eqb (r .stage) over)
     (record { reader = r; got = more })
-    (cond (eqb (r .stage) atHead) (headFed held (r .count + 1) (readHead (versionOf bytes) bytes))
-    (recordFed (r .version) held (r .count + 1) (readRecord (r .version) bytes 0))))
+    (cond (eqb (r .stage) atHead) (headFed r held (r .count + 1) (readHead (asked (r .any) (r .version) bytes) bytes))
+    (recordFed r held (r .count + 1) (readRecord (r .version) bytes 0))))
     (record { reader = r; got = refused badSetting })
 
 -- ---- the strip's end: "no byte, end"; "cut 5"

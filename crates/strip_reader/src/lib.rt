@@ -2,9 +2,9 @@
 // the records come out as soon as they are whole.
 
 ghost use mathlib.Core.Path.{_≡_};
-ghost use Rattle.strip_format.specs.Calls.{readOf};
-ghost use Rattle.strip_reader.specs.Reader.{fresh, passes, handed, isMore, stepOf, headFed, recordFed, fed, finished, nextOf, next};
-ghost use lib.ListN.{length, drop};
+ghost use Rattle.strip_format.specs.Calls.{readHead, readOf};
+ghost use Rattle.strip_reader.specs.Reader.{fresh, freshIn, passes, asked, handed, isMore, stepOf, headFed, recordFed, fed, finished, nextOf, next};
+ghost use lib.ListN.{drop};
 use strip_format::Found;
 use strip_format::HEAD_BYTES;
 use strip_format::Head;
@@ -12,6 +12,7 @@ use strip_format::HeadRead;
 use strip_format::RecordRead;
 use strip_format::Version;
 use strip_format::read_head;
+use strip_format::read_head_in;
 use strip_format::read_record;
 use units::figures::Figures;
 use units::replies::CUT;
@@ -25,12 +26,14 @@ const RECORDS: u32 = 1;
 
 const OVER: u32 = 2;
 
-// The bytes of a head or a record that is not whole yet, how many they are, what the reader waits for, and the
-// version of the strip: 1 as long as the head is not known.
+// The bytes of a head or a record that is not whole yet, how many they are, what the reader waits for, whether it takes
+// a strip of any version, and the version: the strip's, once its head is known; before it the only one that is taken, and
+// 1 where any is.
 pub struct Reader {
     pub held: [u8; HEAD_BYTES],
     pub count: usize,
     pub stage: u32,
+    pub any: bool,
     pub version: Version,
 }
 
@@ -72,18 +75,33 @@ pub fn is_more(got: Got) -> bool
     }
 }
 
-// A head that is whole comes out; one that is refused ends the strip; where bytes are missing, they are waited for.
-fn with_head(held: [u8; HEAD_BYTES], count: usize, read: HeadRead) -> Step
-    ensures { λ r. ⌜ stepOf r ≡ headFed held count read ⌝ }
+// The head that bytes begin with: in the version that they say, where any is taken, and otherwise in the one that is.
+fn head_of(any: bool, version: Version, bytes: &[u8]) -> HeadRead
+    ensures { λ r. ⌜ r ≡ readHead (asked any version (now (bytes .entry))) (now (bytes .entry)) ⌝ }
 {
+    if any {
+        read_head(bytes)
+    } else {
+        read_head_in(version, bytes)
+    }
+}
+
+// A reader holds so many bytes with the last one. A head that is whole comes out; one that is refused ends the strip; where
+// bytes are missing, they are waited for.
+fn with_head(reader: Reader, held: [u8; HEAD_BYTES], count: usize, read: HeadRead) -> Step
+    ensures { λ r. ⌜ stepOf r ≡ headFed reader held count read ⌝ }
+{
+    let any = reader.any;
+    let version = reader.version;
     let head = read.head;
-    let version = head.version;
+    let said = head.version;
     if read.reply == CUT {
         Step {
             reader: Reader {
                 held,
                 count,
                 stage: HEAD,
+                any,
                 version,
             },
             got: Got::More,
@@ -95,7 +113,8 @@ fn with_head(held: [u8; HEAD_BYTES], count: usize, read: HeadRead) -> Step
                     held,
                     count: 0,
                     stage: RECORDS,
-                    version,
+                    any,
+                    version: said,
                 },
                 got: Got::Head(head),
             }
@@ -105,6 +124,7 @@ fn with_head(held: [u8; HEAD_BYTES], count: usize, read: HeadRead) -> Step
                     held,
                     count: 0,
                     stage: OVER,
+                    any,
                     version,
                 },
                 got: Got::Refused(read.reply),
@@ -114,9 +134,11 @@ fn with_head(held: [u8; HEAD_BYTES], count: usize, read: HeadRead) -> Step
 }
 
 // The same of a record.
-fn with_record(version: Version, held: [u8; HEAD_BYTES], count: usize, read: RecordRead) -> Step
-    ensures { λ r. ⌜ stepOf r ≡ recordFed version held count (readOf read) ⌝ }
+fn with_record(reader: Reader, held: [u8; HEAD_BYTES], count: usize, read: RecordRead) -> Step
+    ensures { λ r. ⌜ stepOf r ≡ recordFed reader held count (readOf read) ⌝ }
 {
+    let any = reader.any;
+    let version = reader.version;
     let found = read.found;
     if read.reply == CUT {
         Step {
@@ -124,6 +146,7 @@ fn with_record(version: Version, held: [u8; HEAD_BYTES], count: usize, read: Rec
                 held,
                 count,
                 stage: RECORDS,
+                any,
                 version,
             },
             got: Got::More,
@@ -135,6 +158,7 @@ fn with_record(version: Version, held: [u8; HEAD_BYTES], count: usize, read: Rec
                     held,
                     count: 0,
                     stage: OVER,
+                    any,
                     version,
                 },
                 got: Got::Refused(read.reply),
@@ -144,6 +168,7 @@ fn with_record(version: Version, held: [u8; HEAD_BYTES], count: usize, read: Rec
                     held,
                     count: 0,
                     stage: RECORDS,
+                    any,
                     version,
                 },
                 got: Got::Record(figures),
@@ -153,6 +178,7 @@ fn with_record(version: Version, held: [u8; HEAD_BYTES], count: usize, read: Rec
                     held,
                     count: 0,
                     stage: RECORDS,
+                    any,
                     version,
                 },
                 got: Got::Gap,
@@ -162,7 +188,7 @@ fn with_record(version: Version, held: [u8; HEAD_BYTES], count: usize, read: Rec
 }
 
 impl Reader {
-    // A reader that has seen no byte.
+    // A reader that has seen no byte, of a strip of any version.
     pub fn new() -> Reader
         ensures { λ r. ⌜ r ≡ fresh ⌝ }
     {
@@ -170,7 +196,21 @@ impl Reader {
             held: [0; HEAD_BYTES],
             count: 0,
             stage: HEAD,
+            any: true,
             version: Version::One,
+        }
+    }
+
+    // A reader that has seen no byte, of a strip of one version: another is refused with 7.
+    pub fn of(version: Version) -> Reader
+        ensures { λ r. ⌜ r ≡ freshIn version ⌝ }
+    {
+        Reader {
+            held: [0; HEAD_BYTES],
+            count: 0,
+            stage: HEAD,
+            any: false,
+            version,
         }
     }
 
@@ -200,11 +240,11 @@ impl Reader {
                 held[at] = byte;
                 let n = at + 1;
                 if stage == HEAD {
-                    let read = read_head(&held[..n]);
-                    with_head(held, n, read)
+                    let read = head_of(self.any, version, &held[..n]);
+                    with_head(self, held, n, read)
                 } else {
                     let read = read_record(version, &held[..n], 0);
-                    with_record(version, held, n, read)
+                    with_record(self, held, n, read)
                 }
             }
         } else {

@@ -26,17 +26,18 @@ use Rattle.strip_lines.specs.Lines.{longest, gapKind, recordLine, refusalLine}
 use Rattle.strip_lines.specs.Calls as Putting
 use Rattle.strip_lines.specs.Laws.Ends.{record-line-fits, refusal-line-fits}
 use Rattle.strip_lines.specs.declared.Line as Put
-use Rattle.strip_run.specs.Lines.{Shown, after, unchanged, refusedAt, begunWith, begun, silence, lined, publishedWith, published, answered, framedWith, framed, gappedWith, gapped}
+use Rattle.strip_reader.specs.Telling.{Shown, unchanged}
+use Rattle.strip_run.specs.Lines.{after, refusedAt, begunWith, begun, silence, lined, publishedWith, published, answered, framedWith, framed, gappedWith, gapped}
 use Rattle.strip_run.specs.Run.{lineOf, lineOut}
 use Rattle.strip_run.specs.declared.Desk.{Desk}
 use Rattle.strip_run.specs.declared.Line.{Line}
 
 -- a function's two promises: its answer and the buffer
-abbrev pub Prints : Shown → List ℕ → Line → List ℕ → Type 0
+abbrev pub Prints : Shown Desk → List ℕ → Line → List ℕ → Type 0
 Prints s out line end = (line ≡ lineOf s) × (end ≡ lineOut s out)
 
-pub moved : (s t : Shown) (out : List ℕ) (line : Line) (end : List ℕ) → s ≡ t → Prints s out line end → Prints t out line end
-moved s t out line end e p = subst (λ (x : Shown). Prints x out line end) e p
+pub moved : (s t : Shown Desk) (out : List ℕ) (line : Line) (end : List ℕ) → s ≡ t → Prints s out line end → Prints t out line end
+moved s t out line end e p = subst (λ (x : Shown Desk). Prints x out line end) e p
 
 -- ---- a line that was put, or was not
 pub line-put : (n : ℕ) (bytes out end : List ℕ) (line : Put.Line) → line ≡ Putting.lineOf (put n bytes out) bytes → end ≡ put n bytes out .out → line .reply ≡ done

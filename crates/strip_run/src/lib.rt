@@ -7,9 +7,10 @@ ghost use mathlib.Core.List.{_++_};
 ghost use Rattle.chain.specs.Calls.{told, called};
 ghost use Rattle.strip_lines.specs.Lines.{longest, numberOf};
 ghost use Rattle.strip_reader.specs.Reader.{handed};
-ghost use Rattle.strip_run.specs.Lines.{atStart, refusedAt, begun, silence, published, answered, framed, gapped, shown};
+ghost use Rattle.strip_reader.specs.Telling.{ran, ended};
+ghost use Rattle.strip_run.specs.Lines.{refusedAt, begun, silence, published, framed, gapped, shown};
 ghost use Rattle.strip_run.specs.Lines as Printed;
-ghost use Rattle.strip_run.specs.Run.{new, ran, ended, takenOf, outOf, lineOf, lineOut, verdictOf};
+ghost use Rattle.strip_run.specs.Run.{new, stopped, runOf, takenOf, outOf, lineOf, lineOut, verdictOf};
 use chain::Chain;
 use chain::Next;
 use std::num::wrapping_add_u64;
@@ -248,8 +249,8 @@ fn tell(desk: Desk, got: Got, out: &mut [u8]) -> Line
 // Takes the bytes of a block, one after the other. There is room for a line for each of them.
 fn take_bytes(run: Run, block: &[u8], out: &mut [u8]) -> Taken
     requires { ⌜ length (now block) < length (now out) / longest ⌝ }
-    ensures { λ r. ⌜ r ≡ record { reply = 0; run = ran run (now (block .entry)) .run; length = length (ran run (now (block .entry)) .lines) } ⌝ }
-    ensures { λ _. ⌜ now (out .exit) ≡ ran run (now (block .entry)) .lines ++ drop (length (ran run (now (block .entry)) .lines)) (now (out .entry)) ⌝ }
+    ensures { λ r. ⌜ r ≡ record { reply = 0; run = runOf (ran Printed.told (run .reader) (run .desk) (now (block .entry))); length = length (ran Printed.told (run .reader) (run .desk) (now (block .entry)) .lines) } ⌝ }
+    ensures { λ _. ⌜ now (out .exit) ≡ ran Printed.told (run .reader) (run .desk) (now (block .entry)) .lines ++ drop (length (ran Printed.told (run .reader) (run .desk) (now (block .entry)) .lines)) (now (out .entry)) ⌝ }
 {
     let mut reader = run.reader;
     let mut desk = run.desk;
@@ -274,8 +275,8 @@ fn take_bytes(run: Run, block: &[u8], out: &mut [u8]) -> Taken
 // Ends the run with the strip.
 fn finish(run: Run, out: &mut [u8]) -> Taken
     requires { ⌜ longest ≤ length (now out) ⌝ }
-    ensures { λ r. ⌜ r ≡ record { reply = 0; run = ended run .run; length = length (ended run .lines) } ⌝ }
-    ensures { λ _. ⌜ now (out .exit) ≡ ended run .lines ++ drop (length (ended run .lines)) (now (out .entry)) ⌝ }
+    ensures { λ r. ⌜ r ≡ record { reply = 0; run = stopped (runOf (ended Printed.told (run .reader) (run .desk))); length = length (ended Printed.told (run .reader) (run .desk) .lines) } ⌝ }
+    ensures { λ _. ⌜ now (out .exit) ≡ ended Printed.told (run .reader) (run .desk) .lines ++ drop (length (ended Printed.told (run .reader) (run .desk) .lines)) (now (out .entry)) ⌝ }
 {
     let reader = run.reader;
     let desk = run.desk;

@@ -1,4 +1,4 @@
--- Document 01's numbered replies, and the order in which they are given.
+-- The numbered replies of documents 01 and 02, and the order in which they are given.
 -- Definitions only.
 use mathlib.Core.Bool.{Bool, cond}
 use Prim.Native.Nat.{ℕ}
@@ -31,13 +31,17 @@ cut = 5
 abbrev pub badLength : ℕ
 badLength = 6
 
--- "7 now means neither 1 nor 2": the strip's version
+-- "7 now means neither 1 nor 2": the strip's version; "7 also for a strip that is not of the version the tool starts from"
 abbrev pub badVersion : ℕ
 badVersion = 7
 
 -- "8: output buffer too short"
 abbrev pub noRoom : ℕ
 noRoom = 8
+
+-- "9, cannot be said in version 1"
+abbrev pub unsaid : ℕ
+unsaid = 9
 
 -- "The order is 1, 4, 2, 3": each argument says that its kind of input is as it should be
 unfoldable pub refusal : Bool → Bool → Bool → Bool → ℕ

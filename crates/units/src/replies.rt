@@ -1,4 +1,4 @@
-// The numbers of document 01's replies.
+// The numbers of the replies of documents 01 and 02.
 
 ghost use mathlib.Core.Path.{_≡_};
 ghost use Rattle.units.specs.Replies.{refusal};
@@ -24,11 +24,14 @@ pub const CUT: u32 = 5;
 // A strip's length field that is wrong.
 pub const LENGTH: u32 = 6;
 
-// A strip whose version is neither 1 nor 2.
+// A strip whose version is neither 1 nor 2, or not the one that is asked for.
 pub const VERSION: u32 = 7;
 
 // An output buffer that is too short.
 pub const ROOM: u32 = 8;
+
+// A strip that cannot be said in the version that it is carried to.
+pub const UNSAID: u32 = 9;
 
 // The first reply that applies, in the order 1, 4, 2, 3, where each argument says that its kind of
 // input is as it should be; done where all are.

@@ -62,13 +62,12 @@ number-rewrites bytes at (suc w) b l =
     rw (front, last, number-rewrites bytes at w b (omega arith), take-suc (drop at bytes) w 0 long, getD-drop at bytes w 0)
 
 -- ---- a description
--- The bytes of numbers are as many as the description says.
-pub written-length : (ws ns : List ℕ) → Fits ws ns → length (written ws ns) ≡ size ws
-unfolding Fits written
-written-length [] [] h = refl
-written-length [] (n ∷ ns) h = absurd h
-written-length (w ∷ ws) [] h = absurd h
-written-length (w ∷ ws) (n ∷ ns) h = rw (length-append, field-length w n, written-length ws ns (h .1))
+-- The bytes of numbers, one for each field, are as many as the description says.
+pub written-length : (ws ns : List ℕ) → length ns ≡ length ws → length (written ws ns) ≡ size ws
+unfolding written
+written-length [] ns h = refl
+written-length (w ∷ ws) [] h = absurd (omega arith)
+written-length (w ∷ ws) (n ∷ ns) h = rw (length-append, field-length w n, written-length ws ns (omega arith))
 
 back : (ws ns pre post : List ℕ) → Fits ws ns → fieldsAt ws (pre ++ (written ws ns ++ post)) (length pre) ≡ ns
 unfolding Fits written fieldsAt

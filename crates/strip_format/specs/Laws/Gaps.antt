@@ -115,7 +115,7 @@ unfolding entryBytes fieldsAt
 written-there before rest =
     record {
       says = ap (λ (ns : List ℕ). getD ns 0 0) (numbers-back gapFields (gapLength ∷ []) before rest fits-field);
-      whole = simp (length-append, written-length gapFields (gapLength ∷ []) fits-field) (omega arith);
+      whole = simp (length-append, written-length gapFields (gapLength ∷ []) refl) (omega arith);
     }
 
 -- What is written reads back as a gap, whatever stands before it and after, in a version that has gaps.

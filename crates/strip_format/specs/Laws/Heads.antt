@@ -1,7 +1,7 @@
 -- Heads of any version: what is written reads back equal, what reads rewrites to the same bytes, and the reader accepts exactly what
 -- the description gives. Laws. Assumes nothing.
 use mathlib.Core.Path.{_≡_, refl, sym, ap, subst, _∙_}
-use mathlib.Core.Bool.{Bool, true, false, not, _&&_, cond}
+use mathlib.Core.Bool.{Bool, true, false, _&&_, cond}
 use mathlib.Core.List.{List, [], _∷_, _++_}
 use Prim.Native.Nat.{ℕ, _+_, _^_, _≤_, _<_}
 use native.Mathlib.Omega.{arith}
@@ -18,7 +18,7 @@ use Rattle.units.specs.Settings as Settings
 use Rattle.frames.specs.Shape.{isSamples}
 use Rattle.frames.specs.Facts.{samples-facts}
 use Rattle.strip_format.specs.Fields.{numberAt, size, written, fieldsAt}
-use Rattle.strip_format.specs.Format.{numberOf, thresholdBytes, largestSaid, versionOf, headFields, headLength, headNumbers, headOf, headBytes}
+use Rattle.strip_format.specs.Format.{numberOf, thresholdBytes, largestSaid, versionOf, headFields, headLength, headNumbers, headOf, inVersion, headBytes}
 use Rattle.strip_format.specs.Calls.{isThreshold, headRefusal, refusedHead, judgedHead, readHead, putHead}
 use Rattle.strip_format.specs.Steps.{headPlace}
 use Rattle.strip_format.specs.Laws.Steps.{HeadThere, head-by-place, head-there, head-placed, put-done}
@@ -47,6 +47,11 @@ pub record Held (h : Head) : Type 0 where
   pub initial : T (fits binary32 (h .settings .initial .0))
   pub change : T (fits binary32 (h .settings .change))
   pub noise : T (fits binary32 (h .settings .noise .0))
+
+-- They are the same in another version.
+pub held-in : (v : Version) (h : Head) → Held h → Held (inVersion v h)
+unfolding inVersion
+held-in v h p = record { headroom = p .headroom; largest = p .largest; initial = p .initial; change = p .change; noise = p .noise }
 
 -- what an accepted head is known to be
 record Accepted (h : Head) : Type 0 where
@@ -109,6 +114,11 @@ head-of-numbers h p n =
       float-back (h .settings .noise .0) (p .noise) (n .noise),
     )
 
+-- A head has as many bytes as its description says.
+pub head-length : (h : Head) → length (headBytes h) ≡ size (headFields (h .version))
+unfolding headBytes headNumbers
+head-length h = written-length (headFields (h .version)) (headNumbers h) refl
+
 there : (strip rest : List ℕ) (h : Head) → Fits (headFields (h .version)) (headNumbers h) → strip ≡ headBytes h ++ rest
     → fieldsAt (headFields (h .version)) strip 0 ≡ headNumbers h → HeadThere (h .version) strip
 unfolding headBytes fieldsAt headNumbers
@@ -116,7 +126,7 @@ there strip rest h f s e =
     record {
       version = ap (λ (ns : List ℕ). getD ns 1 0) e;
       says = ap (λ (ns : List ℕ). getD ns 0 0) e;
-      whole = rw (s, length-append, written-length (headFields (h .version)) (headNumbers h) f) (omega arith);
+      whole = rw (s, length-append, written-length (headFields (h .version)) (headNumbers h) refl) (omega arith);
     }
 
 accepted-reads : (strip : List ℕ) (h : Head) → HeadThere (h .version) strip → headOf (h .version) (fieldsAt (headFields (h .version)) strip 0) ≡ h → headRefusal h ≡ done
@@ -137,11 +147,6 @@ module _ (h : Head) (p : Held h) where
     -- and reads back equal, whatever follows it.
     pub written-head-reads : readHead (h .version) (headBytes h ++ rest) ≡ record { reply = done; head = h }
     written-head-reads = accepted-reads (headBytes h ++ rest) h written-head-there (ap (headOf (h .version)) back ∙ head-of-numbers h p (accepted-is h r .plain)) r
-
-  -- A head has as many bytes as its description says.
-  pub head-length : headRefusal h ≡ done → length (headBytes h) ≡ size (headFields (h .version))
-  unfolding headBytes
-  head-length r = written-length (headFields (h .version)) (headNumbers h) (fits-fields h p (accepted-is h r))
 
   -- What was put into a buffer reads back equal from it.
   pub put-head-reads : (out : List ℕ) → putHead h out .reply ≡ done
@@ -181,7 +186,8 @@ module _ (v : Version) where
         let h = headOf v (fieldsAt (headFields v) strip 0) in
         settled (headRefusal h) (record { reply = done; head = h }) (sym (ap (λ (r : HeadRead). r .reply) judged) ∙ e)
 
-    read-is : readHead v strip .head ≡ headOf v (fieldsAt (headFields v) strip 0)
+    -- The head that is read is that of its numbers.
+    pub read-is : readHead v strip .head ≡ headOf v (fieldsAt (headFields v) strip 0)
     unfolding judgedHead
     read-is = ap (λ (r : HeadRead). r .head) judged ∙ rw read-not-refused
 
@@ -236,7 +242,8 @@ module _ (v : Version) where
     pub accepted : headRefusal head ≡ done
     pub is : strip ≡ headBytes head ++ rest
 
-  held-head : (strip : List ℕ) → Held (headOf v (fieldsAt (headFields v) strip 0))
+  -- The settings of a head that is read are f32.
+  pub held-head : (strip : List ℕ) → Held (headOf v (fieldsAt (headFields v) strip 0))
   unfolding headOf
   held-head strip =
       let ns = fieldsAt (headFields v) strip 0 in

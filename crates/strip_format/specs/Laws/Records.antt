@@ -64,13 +64,18 @@ figures-of-numbers f p n =
       float-back (f .envelope .0) (p .envelope) (n .envelope),
     )
 
+-- A record has as many bytes as its description says.
+pub record-length : (f : Figures) → length (recordBytes f) ≡ size recordFields
+unfolding recordBytes recordNumbers
+record-length f = written-length recordFields (recordNumbers f) refl
+
 there : (strip before rest : List ℕ) (f : Figures) → Fits recordFields (recordNumbers f) → strip ≡ before ++ recordBytes f ++ rest
     → fieldsAt recordFields strip (length before) ≡ recordNumbers f → RecordThere strip (length before)
 unfolding recordBytes fieldsAt recordNumbers
 there strip before rest f h s e =
     record {
       says = ap (λ (ns : List ℕ). getD ns 0 0) e;
-      whole = rw s (simp (length-append, written-length recordFields (recordNumbers f) h) (omega arith));
+      whole = rw s (simp (length-append, written-length recordFields (recordNumbers f) refl) (omega arith));
     }
 
 accepted-reads : (v : Version) (strip : List ℕ) (at : ℕ) (f : Figures) → RecordThere strip at → figuresOf (fieldsAt recordFields strip at) ≡ f
@@ -89,11 +94,6 @@ written-record-reads v f before rest p r =
     let e = numbers-back recordFields (recordNumbers f) before rest h in
     let strip = before ++ recordBytes f ++ rest in
     accepted-reads v strip (length before) f (there strip before rest f h refl e) (ap figuresOf e ∙ figures-of-numbers f p (plain f r)) r
-
--- A record has as many bytes as its description says.
-pub record-length : (f : Figures) → Held f → length (recordBytes f) ≡ size recordFields
-unfolding recordBytes
-record-length f p = written-length recordFields (recordNumbers f) (fits-fields f p)
 
 -- What was put into a buffer reads back equal from it.
 pub put-record-reads : (v : Version) (f : Figures) (out : List ℕ) → Held f → putRecord f out .reply ≡ done → readRecord v (putRecord f out .out) 0 ≡ found (figures f)

@@ -1,9 +1,9 @@
 -- Whole strips of any version: what is written reads back equal, and what reads rewrites to the same bytes. Laws.
 -- Assumes nothing.
-use mathlib.Core.Path.{_≡_, refl, sym, ap, subst, _∙_}
+use mathlib.Core.Path.{_≡_, refl, ap, subst, _∙_}
 use mathlib.Core.Bool.{Bool, true, false, cond}
 use mathlib.Core.List.{List, [], _∷_, _++_}
-use Prim.Native.Nat.{ℕ, zero, suc, _+_, _-_, _≤_, _<_}
+use Prim.Native.Nat.{ℕ, zero, suc, _+_, _-_, _≤_}
 use native.Mathlib.Omega.{arith}
 use borrow.Author.Tests.{ltb-false, eqb-true, eqb-false}
 use lib.Dec.{eqb, leb, ltb}
@@ -13,17 +13,16 @@ use Rattle.lists.specs.Each.{Each, each-drop}
 use Rattle.units.specs.Replies.{done, cut, badLength}
 use Rattle.units.specs.declared.figures.Figures.{Figures}
 use Rattle.strip_format.specs.Fields.{size, numberAt, fieldsAt}
-use Rattle.strip_format.specs.Format.{hasGaps, versionOf, headFields, headBytes, recordFields, recordLength, figuresOf, gapFields, Entry, figures, gap, entrySize, entryBytes, entriesBytes, stripBytes}
-use Rattle.strip_format.specs.Calls.{Read, headRefusal, readHead, recordRefusal, refusedRecord, ended, found, judgedRecord, isGap, readRecord}
-use Rattle.strip_format.specs.Whole.{Entries, joined, behind, entriesIn, entriesOf, Strip, readStrip}
-use Rattle.strip_format.specs.Laws.Fields.{Bytes, written-length}
+use Rattle.strip_format.specs.Format.{hasGaps, versionOf, headFields, headBytes, recordFields, recordLength, figuresOf, Entry, figures, gap, entrySize, entryBytes, entriesBytes, stripBytes}
+use Rattle.strip_format.specs.Calls.{headRefusal, readHead, recordRefusal, refusedRecord, ended, found, judgedRecord, isGap, readRecord}
+use Rattle.strip_format.specs.Whole.{joined, behind, entriesIn, entriesOf, Strip, readStrip}
+use Rattle.strip_format.specs.Laws.Fields.{Bytes}
 use Rattle.strip_format.specs.Laws.Heads as Heads
 use Rattle.strip_format.specs.Laws.Records as Records
 use Rattle.strip_format.specs.Laws.Gaps.{gap-had, gap-rewrites, gap-length, written-gap-reads}
 use Rattle.strip_format.specs.Laws.Prefix.{entry-fits}
 use Rattle.strip_format.specs.declared.Version.{Version}
 use Rattle.strip_format.specs.declared.Head.{Head}
-use Rattle.strip_format.specs.declared.HeadRead.{HeadRead}
 
 -- a record that the version can say: figures that are f32 and not refused, or a gap where it has them
 pub Accepted : Version → Entry → Type 0
@@ -32,10 +31,10 @@ Accepted v gap = hasGaps v ≡ true
 
 -- ---- written, then read
 -- A record has as many bytes as its description says.
-pub entry-length : (v : Version) (e : Entry) → Accepted v e → length (entryBytes e) ≡ entrySize e
-unfolding Accepted entryBytes
-entry-length v (figures f) a = Records.record-length f (a .0)
-entry-length v gap a = gap-length
+pub entry-length : (e : Entry) → length (entryBytes e) ≡ entrySize e
+unfolding entryBytes
+entry-length (figures f) = Records.record-length f
+entry-length gap = gap-length
 
 -- What is written reads back equal, whatever follows.
 pub written-entry-reads : (v : Version) (e : Entry) (rest : List ℕ) → Accepted v e → readRecord v (entryBytes e ++ rest) 0 ≡ found e
@@ -43,14 +42,14 @@ unfolding Accepted entryBytes
 written-entry-reads v (figures f) rest a = Records.written-record-reads v f [] rest (a .0) (a .1)
 written-entry-reads v gap rest a = written-gap-reads v [] rest a
 
--- no record is longer than the bytes of all
-as-many : (v : Version) (es : List Entry) → Each (Accepted v) es → length es ≤ length (entriesBytes es)
-unfolding Each entriesBytes
-as-many v [] a = omega arith
-as-many v (e ∷ es) a =
-    let rest = as-many v es (a .1) in
+-- There are no more records than bytes of them.
+pub as-many : (es : List Entry) → length es ≤ length (entriesBytes es)
+unfolding entriesBytes
+as-many [] = omega arith
+as-many (e ∷ es) =
+    let rest = as-many es in
     let this : 2 ≤ entrySize e = two e in
-    rw (length-append, entry-length v e (a .0)) (omega arith)
+    rw (length-append, entry-length e) (omega arith)
   where
     two : (d : Entry) → 2 ≤ entrySize d
     two (figures f) = omega arith
@@ -65,7 +64,7 @@ entries-back v zero (e ∷ es) a l = absurd (omega arith)
 entries-back v (suc most) (e ∷ es) a l =
     rw (
       written-entry-reads v e (entriesBytes es) (a .0),
-      drop-at (entryBytes e) (entriesBytes es) (entrySize e) (entry-length v e (a .0)),
+      drop-at (entryBytes e) (entriesBytes es) (entrySize e) (entry-length e),
       entries-back v most es (a .1) (omega arith),
     )
 
@@ -76,8 +75,8 @@ module _ (h : Head) (es : List Entry) (p : Heads.Held h) (r : headRefusal h ≡ 
   strip-back =
       rw (
         Heads.written-head-reads h p (entriesBytes es) r,
-        drop-at (headBytes h) (entriesBytes es) (size (headFields (h .version))) (Heads.head-length h p r),
-        entries-back (h .version) (length (entriesBytes es)) es a (as-many (h .version) es a),
+        drop-at (headBytes h) (entriesBytes es) (size (headFields (h .version))) (Heads.head-length h),
+        entries-back (h .version) (length (entriesBytes es)) es a (as-many es),
       )
 
   -- in the version that it says.
@@ -169,8 +168,8 @@ entries-rewrite v (suc most) bytes b l e = go (entries-rewrite v most) (seen v b
     go again (refused r) = absurd (r .bad (rw (r .is) at e))
 
 -- what reading gives, by whether the head is taken
-abbrev taken : Version → List ℕ → Bool → Strip
-taken v strip t =
+abbrev pub readBy : Version → List ℕ → Bool → Strip
+readBy v strip t =
     cond t
     (record {
       head = readHead v strip;
@@ -179,8 +178,8 @@ taken v strip t =
     })
     (record { head = readHead v strip; entries = []; reply = readHead v strip .reply })
 
-rewritten : (v : Version) (strip : List ℕ) → Bytes strip → (t : Bool) → eqb (readHead v strip .reply) done ≡ t → taken v strip t .reply ≡ done
-    → stripBytes (taken v strip t .head .head) (taken v strip t .entries) ≡ strip
+rewritten : (v : Version) (strip : List ℕ) → Bytes strip → (t : Bool) → eqb (readHead v strip .reply) done ≡ t → readBy v strip t .reply ≡ done
+    → stripBytes (readBy v strip t .head .head) (readBy v strip t .entries) ≡ strip
 unfolding stripBytes entriesOf
 rewritten v strip b true t e =
     let rest = drop (size (headFields v)) strip in

@@ -6,11 +6,11 @@ use borrow.Author.Needs.{needs}
 use borrow.Author.Tests.{eq-eqb, ne-eqb}
 use Rattle.units.specs.Replies.{cut}
 use Rattle.strip_format.specs.Calls.{entriesFound, readOf}
-use Rattle.strip_format.specs.declared.Version.{Version}
 use Rattle.strip_format.specs.declared.Found.{Found}
 use Rattle.strip_format.specs.declared.Found.the-variants.{None, Record, Gap}
 use Rattle.strip_format.specs.declared.RecordRead.{RecordRead}
 use Rattle.strip_reader.specs.Reader.{handed, stepOf, recordFound, recordFed}
+use Rattle.strip_reader.specs.declared.Reader.{Reader}
 use Rattle.strip_reader.proofs.with_record.Statement.{statement}
 use Rattle.strip_reader.proofs.with_record.Tie as tie
 
@@ -28,9 +28,9 @@ unfolding stepOf handed recordFed readOf
 returns c = rw (eq-eqb _ _ (c .if1 .taken))
 
 -- a record that is not cut, by what was found
-uncut : (v : Version) (held : List ℕ) (count : ℕ) (r : RecordRead) (x : Found) → (r .reply ≡ cut → ⊥) → r .found ≡ x → recordFound v held (r .reply) (entriesFound x) ≡ recordFed v held count (readOf r)
+uncut : (q : Reader) (held : List ℕ) (count : ℕ) (r : RecordRead) (x : Found) → (r .reply ≡ cut → ⊥) → r .found ≡ x → recordFound q held (r .reply) (entriesFound x) ≡ recordFed q held count (readOf r)
 unfolding recordFed readOf
-uncut v held count r x n e = rw (ne-eqb _ _ n, e)
+uncut q held count r x n e = rw (ne-eqb _ _ n, e)
 
 returns-2 : tie.Need-returns-2
 unfolding stepOf handed recordFound

@@ -1,11 +1,11 @@
 -- However a strip is cut into blocks, the same comes out. Laws.
 -- Assumes nothing.
-use mathlib.Core.Path.{_≡_, refl, sym, ap, _∙_}
+use mathlib.Core.Path.{_≡_, refl}
 use mathlib.Core.Bool.{Bool, true, false, cond}
 use mathlib.Core.List.{List, [], _∷_, _++_}
 use Prim.Native.Nat.{ℕ}
 use Rattle.strip_reader.specs.Reader.{Handed, isMore, fed}
-use Rattle.strip_reader.specs.Feeding.{Fold, joins, feed, feedBlocks, whole}
+use Rattle.strip_reader.specs.Feeding.{joins, feed, feedBlocks, whole}
 use Rattle.strip_reader.specs.declared.Reader.{Reader}
 
 pub joins-append : (h : Handed) (xs ys : List Handed) → joins h (xs ++ ys) ≡ joins h xs ++ ys

@@ -1,22 +1,22 @@
 -- What comes out of a reader is what the whole strip has, however it is cut: the head, the records up to the first that is refused, and the end or the
 -- refusal. Laws.
 -- Assumes nothing.
-use mathlib.Core.Path.{_≡_, refl, sym, ap, subst, _∙_}
+use mathlib.Core.Path.{_≡_, refl, sym, ap, _∙_}
 use mathlib.Core.Logic.{_⊎_, inl, inr}
-use mathlib.Core.Bool.{Bool, true, false, _&&_, cond}
+use mathlib.Core.Bool.{Bool, true, false}
 use mathlib.Core.List.{List, [], _∷_, _++_, append-assoc, append-nil}
 use Prim.Native.Nat.{ℕ, zero, suc, _+_, _≤_, _<_}
 use native.Mathlib.Numerals.{add-one}
 use native.Mathlib.Omega.{arith}
 use borrow.Author.Tests.{le-leb, lt-ltb, eq-eqb, ne-eqb, eqb-true, eqb-false}
-use lib.Dec.{eqb, leb, ltb}
+use lib.Dec.{eqb}
 use lib.ListN.{length, take, drop, set, length-set, length-append}
 use lib.Seq.{take-suc-set, drop-at, length-take-le}
-use Rattle.units.specs.Replies.{done, cut, badSetting}
+use Rattle.units.specs.Replies.{done, cut}
 use Rattle.strip_format.specs.Fields.{size}
-use Rattle.strip_format.specs.Format.{versionOf, headFields, recordFields, Entry, entrySize}
+use Rattle.strip_format.specs.Format.{headFields, Entry, entrySize}
 use Rattle.strip_format.specs.Calls.{Read, readHead, refusedRecord, ended, found, readRecord}
-use Rattle.strip_format.specs.Whole.{Entries, joined, behind, entriesIn, entriesOf, Strip, readStrip}
+use Rattle.strip_format.specs.Whole.{joined, behind, entriesIn, entriesOf, Strip, readStrip}
 use Rattle.strip_format.specs.Laws.Prefix.{none-of-nothing, record-settled, record-ends, record-cut-short, head-settled, head-ends, head-cut-short, version-settled, cut-before}
 use Rattle.strip_format.specs.Laws.Heads.{read-version}
 use Rattle.strip_format.specs.Laws.Whole.{Seen, here, over, refused, seen}
@@ -24,7 +24,7 @@ use Rattle.strip_format.specs.declared.Version.{Version}
 use Rattle.strip_format.specs.declared.Version.the-variants.{One, Two}
 use Rattle.strip_format.specs.declared.HeadRead.{HeadRead}
 use Rattle.strip_reader.specs.Reader as Reading
-use Rattle.strip_reader.specs.Feeding.{Fold, joins, feed, feedBlocks, whole, handedOut, ending, entriesThen, handedBy}
+use Rattle.strip_reader.specs.Feeding.{Fold, joins, feed, whole, handedOut, ending, entriesThen, handedBy}
 use Rattle.strip_reader.specs.Laws.Pieces.{joins-append, feed-blocks}
 use Rattle.strip_reader.specs.declared.Reader.{Reader}
 
@@ -42,29 +42,47 @@ held-more : (r : Reader) (b : ℕ) → Ready r → take (r .count + 1) (set (r .
 held-more r b h = rw (add-one (r .count)) (take-suc-set (r .held) (r .count) b (omega (arith, h .long, h .space)))
 
 -- and the reader with it
-with-byte : Reader → ℕ → ℕ → Version → Reader
-with-byte r b stage v = record { held = set (r .held) (r .count) b; count = r .count + 1; stage = stage; version = v }
+with-byte : Reader → ℕ → ℕ → Reader
+with-byte r b stage = record { held = set (r .held) (r .count) b; count = r .count + 1; stage = stage; any = r .any; version = r .version }
 
 emptied : Reader → ℕ → ℕ → Version → Reader
-emptied r b stage v = record { held = set (r .held) (r .count) b; count = 0; stage = stage; version = v }
+emptied r b stage v = record { held = set (r .held) (r .count) b; count = 0; stage = stage; any = r .any; version = v }
 
 passing : (r : Reader) → Ready r → r .stage ≤ Reading.over → Reading.passes r ≡ true
 unfolding Reading.passes
 passing r h s = rw (lt-ltb (r .count) Reading.room (h .space), le-leb (r .stage) Reading.over s)
 
--- a head in the version that it says
-abbrev headSaid : List ℕ → HeadRead
-headSaid xs = readHead (versionOf xs) xs
+-- ---- the version that a reader asks for
+-- Once the head is settled it stays, whatever follows.
+asked-settled : (any : Bool) (v : Version) (xs ys : List ℕ) → (readHead (Reading.asked any v xs) xs .reply ≡ cut → ⊥)
+    → Reading.asked any v (xs ++ ys) ≡ Reading.asked any v xs
+unfolding Reading.asked
+asked-settled true v xs ys n = version-settled xs ys n
+asked-settled false v xs ys n = refl
+
+-- What is cut in it is cut in that which is asked for with what follows.
+asked-before : (any : Bool) (v : Version) (xs ys : List ℕ) → readHead (Reading.asked any v xs) xs .reply ≡ cut
+    → readHead (Reading.asked any v (xs ++ ys)) xs .reply ≡ cut
+unfolding Reading.asked
+asked-before true v xs ys e = cut-before xs ys e
+asked-before false v xs ys e = e
+
+abbrev askedBy : Reader → List ℕ → Version
+askedBy r xs = Reading.asked (r .any) (r .version) xs
+
+-- a head in it
+abbrev headBy : Reader → List ℕ → HeadRead
+headBy r xs = readHead (askedBy r xs) xs
 
 module _ (r : Reader) (b : ℕ) (h : Ready r) where
   -- a byte at the records, and one at the head
   at-record : (v : Version) → r .version ≡ v → r .stage ≡ Reading.atRecords
-      → Reading.fed r b ≡ Reading.recordFed v (set (r .held) (r .count) b) (r .count + 1) (readRecord v (bytesOf r ++ (b ∷ [])) 0)
+      → Reading.fed r b ≡ Reading.recordFed r (set (r .held) (r .count) b) (r .count + 1) (readRecord v (bytesOf r ++ (b ∷ [])) 0)
   unfolding Reading.fed
   at-record v w s = rw (passing r h (omega arith), s, held-more r b h, w)
 
   at-head : r .stage ≡ Reading.atHead
-      → Reading.fed r b ≡ Reading.headFed (set (r .held) (r .count) b) (r .count + 1) (headSaid (bytesOf r ++ (b ∷ [])))
+      → Reading.fed r b ≡ Reading.headFed r (set (r .held) (r .count) b) (r .count + 1) (headBy r (bytesOf r ++ (b ∷ [])))
   unfolding Reading.fed
   at-head s = rw (passing r h (omega arith), s, held-more r b h)
 
@@ -86,10 +104,10 @@ silent r (b ∷ bs) h s =
     ∙ ap (λ (x : Fold). record { reader = x .reader; out = x .out }) (silent r bs h s)
 
 -- what comes out in the end, after all that came out before
-abbrev ended-by : Fold → List Reading.Handed
+abbrev pub ended-by : Fold → List Reading.Handed
 ended-by f = f .out ++ joins (Reading.finished (f .reader)) []
 
-abbrev outOf : Reader → List ℕ → List Reading.Handed
+abbrev pub outOf : Reader → List ℕ → List Reading.Handed
 outOf r bytes = ended-by (feed r bytes)
 
 -- one byte more
@@ -114,9 +132,9 @@ emptied-ready : (r : Reader) (b stage : ℕ) (v : Version) → Ready r → Ready
 unfolding emptied
 emptied-ready r b stage v h = record { long = simp length-set (h .long); space = omega arith }
 
-emptied-records : (v : Version) (r : Reader) (b : ℕ) → Ready r → AtRecords v (emptied r b Reading.atRecords v)
+emptied-records : (v w : Version) (r : Reader) (b : ℕ) → Ready r → w ≡ v → AtRecords v (emptied r b Reading.atRecords w)
 unfolding emptied
-emptied-records v r b h = record { ready = emptied-ready r b Reading.atRecords v h; stage = refl; version = refl; begun = inl refl }
+emptied-records v w r b h e = record { ready = emptied-ready r b Reading.atRecords w h; stage = refl; version = e; begun = inl refl }
 
 -- what the bytes that it holds and those that follow are
 abbrev entriesThere : ℕ → Version → List ℕ → List Reading.Handed
@@ -199,34 +217,35 @@ none-left v r a most l = go (a .begun) most l
 
 -- what a byte at the records gives, by what is read with it
 module _ (v : Version) (r : Reader) (b : ℕ) (a : AtRecords v r) where
-  by-record : Reading.fed r b ≡ Reading.recordFed v (set (r .held) (r .count) b) (r .count + 1) (readRecord v (bytesOf r ++ (b ∷ [])) 0)
+  by-record : Reading.fed r b ≡ Reading.recordFed r (set (r .held) (r .count) b) (r .count + 1) (readRecord v (bytesOf r ++ (b ∷ [])) 0)
   by-record = at-record r b (a .ready) v (a .version) (a .stage)
 
   found-fed : (e : Entry) → readRecord v (bytesOf r ++ (b ∷ [])) 0 ≡ found e
-      → Reading.fed r b ≡ record { reader = emptied r b Reading.atRecords v; got = Reading.entry e }
+      → Reading.fed r b ≡ record { reader = emptied r b Reading.atRecords (r .version); got = Reading.entry e }
   unfolding Reading.recordFed Reading.recordFound found emptied
   found-fed e i = by-record ∙ rw i
 
   cut-fed : readRecord v (bytesOf r ++ (b ∷ [])) 0 ≡ refusedRecord cut
-      → Reading.fed r b ≡ record { reader = with-byte r b Reading.atRecords v; got = Reading.more }
+      → Reading.fed r b ≡ record { reader = with-byte r b Reading.atRecords; got = Reading.more }
   unfolding Reading.recordFed refusedRecord with-byte
   cut-fed i = by-record ∙ rw i
 
   refused-fed : (n : ℕ) → (n ≡ cut → ⊥) → readRecord v (bytesOf r ++ (b ∷ [])) 0 ≡ refusedRecord n
-      → Reading.fed r b ≡ record { reader = emptied r b Reading.over v; got = Reading.refused n }
+      → Reading.fed r b ≡ record { reader = emptied r b Reading.over (r .version); got = Reading.refused n }
   unfolding Reading.recordFed Reading.recordFound refusedRecord emptied
   refused-fed n c i = by-record ∙ rw (i, ne-eqb n cut c)
 
 -- a reader that waits on with one byte more
-waits-on : (v : Version) (r : Reader) (b : ℕ) → Ready r → readRecord v (bytesOf r ++ (b ∷ [])) 0 .reply ≡ cut → AtRecords v (with-byte r b Reading.atRecords v)
+waits-on : (v : Version) (r : Reader) (b : ℕ) → Ready r → r .version ≡ v → readRecord v (bytesOf r ++ (b ∷ [])) 0 .reply ≡ cut
+    → AtRecords v (with-byte r b Reading.atRecords)
 unfolding with-byte
-waits-on v r b h c =
+waits-on v r b h w c =
     let short = record-cut-short v (bytesOf r ++ (b ∷ [])) c in
     let one-more : length (bytesOf r ++ (b ∷ [])) ≡ r .count + 1 = rw (length-append, length-take-le (r .count) (r .held) (omega (arith, h .long, h .space))) in
     record {
       ready = record { long = simp length-set (h .long); space = omega arith };
       stage = refl;
-      version = refl;
+      version = w;
       begun = inr (ap (λ (xs : List ℕ). readRecord v xs 0 .reply) (held-more r b h) ∙ c);
     }
 
@@ -255,22 +274,22 @@ byte-more v r b bs a (suc most) l again = go (seen v (bytesOf r ++ (b ∷ [])))
         → outOf r (b ∷ bs) ≡ entriesThere (suc most) v (bytesOf r ++ (b ∷ bs))
     by-reply n d i true t =
         let c : readRecord v (bytesOf r ++ (b ∷ [])) 0 ≡ refusedRecord cut = i ∙ ap refusedRecord (eqb-true n cut t) in
-        let waits = waits-on v r b (a .ready) (ap (λ (x : Read). x .reply) c) in
-        let same : bytesOf (with-byte r b Reading.atRecords v) ++ bs ≡ bytesOf r ++ (b ∷ bs) = ap (λ (xs : List ℕ). xs ++ bs) (held-more r b (a .ready)) ∙ sym (regroup (bytesOf r) b bs) in
+        let waits = waits-on v r b (a .ready) (a .version) (ap (λ (x : Read). x .reply) c) in
+        let same : bytesOf (with-byte r b Reading.atRecords) ++ bs ≡ bytesOf r ++ (b ∷ bs) = ap (λ (xs : List ℕ). xs ++ bs) (held-more r b (a .ready)) ∙ sym (regroup (bytesOf r) b bs) in
         out-byte r b bs _ (cut-fed v r b a c)
-        ∙ again (with-byte r b Reading.atRecords v) waits (suc most) (rw same l)
+        ∙ again (with-byte r b Reading.atRecords) waits (suc most) (rw same l)
         ∙ ap (entriesThere (suc most) v) same
     by-reply n d i false t =
         let c = eqb-false n cut t in
         out-byte r b bs _ (refused-fed v r b a n c i)
-        ∙ ap (λ (out : List Reading.Handed). Reading.refused n ∷ out) (out-silent (emptied r b Reading.over v) bs (emptied-ready r b Reading.over v (a .ready)) refl)
+        ∙ ap (λ (out : List Reading.Handed). Reading.refused n ∷ out) (out-silent (emptied r b Reading.over (r .version)) bs (emptied-ready r b Reading.over (r .version) (a .ready)) refl)
         ∙ sym (whole-is ∙ refused-first v most (bytesOf r ++ (b ∷ [])) bs n some i d c)
 
     go : Seen v (bytesOf r ++ (b ∷ [])) → outOf r (b ∷ bs) ≡ entriesThere (suc most) v (bytesOf r ++ (b ∷ bs))
     go (here i) =
         let e = i .entry in
         out-byte r b bs _ (found-fed v r b a e (i .is))
-        ∙ ap (λ (out : List Reading.Handed). Reading.entry e ∷ out) (again (emptied r b Reading.atRecords v) (emptied-records v r b (a .ready)) most fewer)
+        ∙ ap (λ (out : List Reading.Handed). Reading.entry e ∷ out) (again (emptied r b Reading.atRecords (r .version)) (emptied-records v (r .version) r b (a .ready) (a .version)) most fewer)
         ∙ sym (whole-is ∙ entry-first v most (bytesOf r ++ (b ∷ [])) bs e some (i .is) (record-ends v (bytesOf r) b e (begun (a .begun)) (i .is)))
     go (over o) = absurd (omega (arith, some, o .none))
     go (refused f) = by-reply (f .reply) (f .bad) (f .is) (eqb (f .reply) cut) refl
@@ -286,7 +305,7 @@ records-out v (b ∷ bs) r a most l = byte-more v r b bs a most l (records-out v
 record AtHead (r : Reader) : Type 0 where
   ready : Ready r
   stage : r .stage ≡ Reading.atHead
-  begun : headSaid (bytesOf r) .reply ≡ cut
+  begun : headBy r (bytesOf r) .reply ≡ cut
 
 -- no head is longer than the room
 longest : (v : Version) → size (headFields v) ≤ Reading.room
@@ -296,24 +315,24 @@ longest Two = omega arith
 -- what a byte at the head gives, by what is read with it
 module _ (r : Reader) (b : ℕ) (h : Ready r) (s : r .stage ≡ Reading.atHead) where
   abbrev said : HeadRead
-  said = headSaid (bytesOf r ++ (b ∷ []))
+  said = headBy r (bytesOf r ++ (b ∷ []))
 
   head-done : said .reply ≡ done → Reading.fed r b ≡ record { reader = emptied r b Reading.atRecords (said .head .version); got = Reading.head (said .head) }
   unfolding Reading.headFed emptied
   head-done d = at-head r b h s ∙ rw d
 
-  head-more : said .reply ≡ cut → Reading.fed r b ≡ record { reader = with-byte r b Reading.atHead (said .head .version); got = Reading.more }
+  head-more : said .reply ≡ cut → Reading.fed r b ≡ record { reader = with-byte r b Reading.atHead; got = Reading.more }
   unfolding Reading.headFed with-byte
   head-more c = at-head r b h s ∙ rw c
 
   head-refused : (said .reply ≡ cut → ⊥) → (said .reply ≡ done → ⊥)
-      → Reading.fed r b ≡ record { reader = emptied r b Reading.over (said .head .version); got = Reading.refused (said .reply) }
+      → Reading.fed r b ≡ record { reader = emptied r b Reading.over (r .version); got = Reading.refused (said .reply) }
   unfolding Reading.headFed emptied
   head-refused c d = at-head r b h s ∙ rw (ne-eqb (said .reply) cut c, ne-eqb (said .reply) done d)
 
--- a whole strip in the version that it says
-abbrev stripSaid : List ℕ → Strip
-stripSaid xs = readStrip (versionOf xs) xs
+-- a whole strip in the version that is asked for
+abbrev stripBy : Reader → List ℕ → Strip
+stripBy r xs = readStrip (askedBy r xs) xs
 
 -- one whose head is refused, and one whose head is taken
 strip-refused : (v : Version) (xs : List ℕ) → (readHead v xs .reply ≡ done → ⊥) → handedBy (readStrip v xs) ≡ Reading.refused (readHead v xs .reply) ∷ []
@@ -330,52 +349,51 @@ unfolding joins Reading.finished Reading.isMore
 head-end r h s = rw (passing r h (omega arith), s)
 
 -- a reader that waits on with one byte more of the head
-head-waits : (r : Reader) (b : ℕ) (v : Version) → Ready r → headSaid (bytesOf r ++ (b ∷ [])) .reply ≡ cut → AtHead (with-byte r b Reading.atHead v)
+head-waits : (r : Reader) (b : ℕ) → Ready r → headBy r (bytesOf r ++ (b ∷ [])) .reply ≡ cut → AtHead (with-byte r b Reading.atHead)
 unfolding with-byte
-head-waits r b v h c =
+head-waits r b h c =
     let xs = bytesOf r ++ (b ∷ []) in
-    let short = head-cut-short (versionOf xs) xs c in
+    let short = head-cut-short (askedBy r xs) xs c in
     let one-more : length xs ≡ r .count + 1 = rw (length-append, length-take-le (r .count) (r .held) (omega (arith, h .long, h .space))) in
     record {
-      ready = record { long = simp length-set (h .long); space = omega (arith, longest (versionOf xs)) };
+      ready = record { long = simp length-set (h .long); space = omega (arith, longest (askedBy r xs)) };
       stage = refl;
-      begun = ap (λ (ys : List ℕ). headSaid ys .reply) (held-more r b h) ∙ c;
+      begun = ap (λ (ys : List ℕ). headBy r ys .reply) (held-more r b h) ∙ c;
     }
 
-head-byte : (r : Reader) (b : ℕ) (bs : List ℕ) → AtHead r → ((q : Reader) → AtHead q → outOf q bs ≡ handedBy (stripSaid (bytesOf q ++ bs)))
-    → outOf r (b ∷ bs) ≡ handedBy (stripSaid (bytesOf r ++ (b ∷ bs)))
+head-byte : (r : Reader) (b : ℕ) (bs : List ℕ) → AtHead r → ((q : Reader) → AtHead q → outOf q bs ≡ handedBy (stripBy q (bytesOf q ++ bs)))
+    → outOf r (b ∷ bs) ≡ handedBy (stripBy r (bytesOf r ++ (b ∷ bs)))
 unfolding joins Reading.isMore emptied with-byte
-head-byte r b bs a again = go (eqb (headSaid xs .reply) cut) refl (eqb (headSaid xs .reply) done) refl
+head-byte r b bs a again = go (eqb (headBy r xs .reply) cut) refl (eqb (headBy r xs .reply) done) refl
   where
     xs : List ℕ
     xs = bytesOf r ++ (b ∷ [])
 
     v : Version
-    v = versionOf xs
+    v = askedBy r xs
 
-    whole-is : handedBy (stripSaid (bytesOf r ++ (b ∷ bs))) ≡ handedBy (stripSaid (xs ++ bs))
-    whole-is = ap (λ (ys : List ℕ). handedBy (stripSaid ys)) (regroup (bytesOf r) b bs)
+    whole-is : handedBy (stripBy r (bytesOf r ++ (b ∷ bs))) ≡ handedBy (stripBy r (xs ++ bs))
+    whole-is = ap (λ (ys : List ℕ). handedBy (stripBy r ys)) (regroup (bytesOf r) b bs)
 
     -- once the head is settled the whole strip is read in its version
-    in-version : (headSaid xs .reply ≡ cut → ⊥) → handedBy (stripSaid (xs ++ bs)) ≡ handedBy (readStrip v (xs ++ bs))
-    in-version n = ap (λ (w : Version). handedBy (readStrip w (xs ++ bs))) (version-settled xs bs n)
+    in-version : (headBy r xs .reply ≡ cut → ⊥) → handedBy (stripBy r (xs ++ bs)) ≡ handedBy (readStrip v (xs ++ bs))
+    in-version n = ap (λ (w : Version). handedBy (readStrip w (xs ++ bs))) (asked-settled (r .any) (r .version) xs bs n)
 
-    go : (c : Bool) → eqb (headSaid xs .reply) cut ≡ c → (d : Bool) → eqb (headSaid xs .reply) done ≡ d → outOf r (b ∷ bs) ≡ handedBy (stripSaid (bytesOf r ++ (b ∷ bs)))
+    go : (c : Bool) → eqb (headBy r xs .reply) cut ≡ c → (d : Bool) → eqb (headBy r xs .reply) done ≡ d → outOf r (b ∷ bs) ≡ handedBy (stripBy r (bytesOf r ++ (b ∷ bs)))
     go true c d e =
-        let is-cut = eqb-true (headSaid xs .reply) cut c in
-        let w = headSaid xs .head .version in
-        let same : bytesOf (with-byte r b Reading.atHead w) ++ bs ≡ bytesOf r ++ (b ∷ bs) = ap (λ (ys : List ℕ). ys ++ bs) (held-more r b (a .ready)) ∙ sym (regroup (bytesOf r) b bs) in
+        let is-cut = eqb-true (headBy r xs .reply) cut c in
+        let same : bytesOf (with-byte r b Reading.atHead) ++ bs ≡ bytesOf r ++ (b ∷ bs) = ap (λ (ys : List ℕ). ys ++ bs) (held-more r b (a .ready)) ∙ sym (regroup (bytesOf r) b bs) in
         out-byte r b bs _ (head-more r b (a .ready) (a .stage) is-cut)
-        ∙ again (with-byte r b Reading.atHead w) (head-waits r b w (a .ready) is-cut)
-        ∙ ap (λ (ys : List ℕ). handedBy (stripSaid ys)) same
+        ∙ again (with-byte r b Reading.atHead) (head-waits r b (a .ready) is-cut)
+        ∙ ap (λ (ys : List ℕ). handedBy (stripBy r ys)) same
     go false c true e =
-        let is-done = eqb-true (headSaid xs .reply) done e in
-        let not-cut = eqb-false (headSaid xs .reply) cut c in
+        let is-done = eqb-true (headBy r xs .reply) done e in
+        let not-cut = eqb-false (headBy r xs .reply) cut c in
         let stays : readHead v (xs ++ bs) ≡ readHead v xs = head-settled v xs bs not-cut in
-        let rest : drop (size (headFields v)) (xs ++ bs) ≡ bs = drop-at xs bs (size (headFields v)) (sym (head-ends v (bytesOf r) b (cut-before (bytesOf r) (b ∷ []) (a .begun)) is-done)) in
-        let here = emptied-records v r b (a .ready) in
+        let rest : drop (size (headFields v)) (xs ++ bs) ≡ bs = drop-at xs bs (size (headFields v)) (sym (head-ends v (bytesOf r) b (asked-before (r .any) (r .version) (bytesOf r) (b ∷ []) (a .begun)) is-done)) in
+        let here = emptied-records v v r b (a .ready) refl in
         out-byte r b bs _ (head-done r b (a .ready) (a .stage) is-done)
-        ∙ ap (λ (w : Version). Reading.head (headSaid xs .head) ∷ outOf (emptied r b Reading.atRecords w) bs) (read-version v xs is-done)
+        ∙ ap (λ (w : Version). Reading.head (headBy r xs .head) ∷ outOf (emptied r b Reading.atRecords w) bs) (read-version v xs is-done)
         ∙ ap (λ (out : List Reading.Handed). Reading.head (readHead v xs .head) ∷ out) (records-out v bs (emptied r b Reading.atRecords v) here (length bs) (omega arith))
         ∙ sym
         (whole-is
@@ -383,36 +401,41 @@ head-byte r b bs a again = go (eqb (headSaid xs .reply) cut) refl (eqb (headSaid
         ∙ strip-taken v (xs ++ bs) (ap (λ (x : HeadRead). x .reply) stays ∙ is-done)
         ∙ rw (stays, rest) refl)
     go false c false e =
-        let not-cut = eqb-false (headSaid xs .reply) cut c in
-        let not-done = eqb-false (headSaid xs .reply) done e in
-        let w = headSaid xs .head .version in
+        let not-cut = eqb-false (headBy r xs .reply) cut c in
+        let not-done = eqb-false (headBy r xs .reply) done e in
         let stays : readHead v (xs ++ bs) ≡ readHead v xs = head-settled v xs bs not-cut in
         out-byte r b bs _ (head-refused r b (a .ready) (a .stage) not-cut not-done)
-        ∙ ap (λ (out : List Reading.Handed). Reading.refused (headSaid xs .reply) ∷ out)
-        (out-silent (emptied r b Reading.over w) bs (emptied-ready r b Reading.over w (a .ready)) refl)
+        ∙ ap (λ (out : List Reading.Handed). Reading.refused (headBy r xs .reply) ∷ out)
+        (out-silent (emptied r b Reading.over (r .version)) bs (emptied-ready r b Reading.over (r .version) (a .ready)) refl)
         ∙ sym
         (whole-is
         ∙ in-version not-cut
         ∙ strip-refused v (xs ++ bs) (λ d. not-done (sym (ap (λ (x : HeadRead). x .reply) stays) ∙ d))
         ∙ ap (λ (x : HeadRead). Reading.refused (x .reply) ∷ []) stays)
 
-head-out : (bytes : List ℕ) (r : Reader) → AtHead r → outOf r bytes ≡ handedBy (stripSaid (bytesOf r ++ bytes))
+head-out : (bytes : List ℕ) (r : Reader) → AtHead r → outOf r bytes ≡ handedBy (stripBy r (bytesOf r ++ bytes))
 unfolding feed
 head-out [] r a =
     let held = append-nil (bytesOf r) in
     head-end r (a .ready) (a .stage)
     ∙ sym
-    (ap (λ (xs : List ℕ). handedBy (stripSaid xs)) held
-    ∙ strip-refused (versionOf (bytesOf r)) (bytesOf r) (λ d. omega (arith, sym d ∙ a .begun))
+    (ap (λ (xs : List ℕ). handedBy (stripBy r xs)) held
+    ∙ strip-refused (askedBy r (bytesOf r)) (bytesOf r) (λ d. omega (arith, sym d ∙ a .begun))
     ∙ ap (λ (n : ℕ). Reading.refused n ∷ []) (a .begun))
 head-out (b ∷ bs) r a = head-byte r b bs a (head-out bs)
 
 -- a new reader is at the head
-fresh-head : AtHead Reading.fresh
-unfolding Reading.fresh readHead
-fresh-head = record { ready = record { long = refl; space = omega arith }; stage = refl; begun = refl }
+begun-head : (any : Bool) (v : Version) → AtHead (Reading.begun any v)
+unfolding Reading.begun readHead
+begun-head any v = record { ready = record { long = refl; space = omega arith }; stage = refl; begun = refl }
 
--- Whatever the cutting into blocks, what comes out is what the whole strip has, in the version that it says.
-pub any-cutting : (blocks : List (List ℕ)) → handedOut blocks ≡ handedBy (readStrip (versionOf (whole blocks)) (whole blocks))
-unfolding handedOut Reading.fresh
-any-cutting blocks = ap ended-by (feed-blocks Reading.fresh blocks) ∙ head-out (whole blocks) Reading.fresh fresh-head
+-- What comes out of a strip's bytes, and of its end, is what the strip has, in the version that is asked for;
+pub whole-out : (any : Bool) (v : Version) (strip : List ℕ) → outOf (Reading.begun any v) strip ≡ handedBy (readStrip (Reading.asked any v strip) strip)
+unfolding Reading.begun
+whole-out any v strip = head-out strip (Reading.begun any v) (begun-head any v)
+
+-- and so it is whatever the cutting into blocks.
+pub any-cutting : (any : Bool) (v : Version) (blocks : List (List ℕ))
+    → handedOut (Reading.begun any v) blocks ≡ handedBy (readStrip (Reading.asked any v (whole blocks)) (whole blocks))
+unfolding handedOut
+any-cutting any v blocks = ap ended-by (feed-blocks (Reading.begun any v) blocks) ∙ whole-out any v (whole blocks)

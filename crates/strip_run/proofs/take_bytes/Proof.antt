@@ -1,19 +1,20 @@
 -- `strip_run::take_bytes` meets its contract. The invariant: the lines that were put, and those of the bytes from here on, are those of the block.
 -- Assumes nothing.
 use mathlib.Core.Path.{_≡_, refl, sym, ap, _∙_}
-use mathlib.Core.List.{List, [], _∷_, _++_, append-assoc, append-nil}
+use mathlib.Core.List.{List, [], _++_, append-assoc, append-nil}
 use Prim.Native.Nat.{ℕ, suc, _+_, _*_, _-_, _/_, _≤_, _<_}
 use native.Mathlib.Numerals.{add-one}
 use native.Mathlib.Omega.{arith}
 use borrow.Author.Needs.{needs}
 use borrow.Rule.Slice.PartMut.{putMid}
-use lib.ListN.{length, getD, take, drop, length-append, length-take, length-drop, drop-of-length-le, take-append-drop}
+use lib.ListN.{length, getD, take, drop, length-append, length-drop, drop-of-length-le, take-append-drop}
 use lib.Seq.{drop-cons, drop-drop, take-at, drop-at, length-take-le, take-all}
 use Rattle.strip_lines.specs.Lines.{longest}
 use Rattle.strip_reader.specs.Reader.{Handed, Fed, stepOf, handed, fed}
 use Rattle.strip_reader.specs.declared.Step.{Step}
-use Rattle.strip_run.specs.Lines.{Shown, told}
-use Rattle.strip_run.specs.Run.{Ran, ran, lineOf, lineOut}
+use Rattle.strip_reader.specs.Telling.{Ran, ran}
+use Rattle.strip_run.specs.Lines.{told}
+use Rattle.strip_run.specs.Run.{runOf, lineOf, lineOut}
 use Rattle.strip_run.specs.Laws.Room.{told-most}
 use Rattle.strip_run.specs.declared.Desk.{Desk}
 use Rattle.strip_run.specs.declared.Line.{Line}
@@ -22,10 +23,14 @@ use Rattle.strip_run.specs.declared.Taken.{Taken}
 use Rattle.strip_run.proofs.take_bytes.Statement.{statement}
 use Rattle.strip_run.proofs.take_bytes.Tie as tie
 
+-- what bytes make of a run
+abbrev ranBy : Run → List ℕ → Ran Desk
+ranBy r bytes = ran told (r .reader) (r .desk) bytes
+
 -- how far a block is taken
 record Going (block out₀ : List ℕ) (r₀ : Run) (out : List ℕ) (r : Run) (n i : ℕ) : Type 0 where
-  lines : take n out ++ ran r (drop i block) .lines ≡ ran r₀ block .lines
-  run : ran r (drop i block) .run ≡ ran r₀ block .run
+  lines : take n out ++ ranBy r (drop i block) .lines ≡ ranBy r₀ block .lines
+  run : runOf (ranBy r (drop i block)) ≡ runOf (ranBy r₀ block)
   rest : drop n out ≡ drop n out₀
   same : length out ≡ length out₀
   most : n ≤ longest * i
@@ -59,20 +64,19 @@ after-line out n line ys h l e =
 
 -- one byte more
 next-byte : (block : List ℕ) (i : ℕ) (r : Run) (s : Step) (line : Line) → i < length block → stepOf s ≡ fed (r .reader) (getD block i 0) → line ≡ lineOf (told (r .desk) (handed (s .got)))
-    → ran r (drop i block)
+    → ranBy r (drop i block)
     ≡ record {
-      run = ran (record { reader = s .reader; desk = line .desk }) (drop (i + 1) block) .run;
-      lines = told (r .desk) (handed (s .got)) .line ++ ran (record { reader = s .reader; desk = line .desk }) (drop (i + 1) block) .lines;
+      reader = ran told (s .reader) (line .desk) (drop (i + 1) block) .reader;
+      desk = ran told (s .reader) (line .desk) (drop (i + 1) block) .desk;
+      lines = told (r .desk) (handed (s .got)) .line ++ ran told (s .reader) (line .desk) (drop (i + 1) block) .lines;
     }
 unfolding ran stepOf
 next-byte block i r s line l h e =
-    let taken : Fed → Ran =
+    let taken : Fed → Ran Desk =
     λ (x : Fed).
-    record {
-      run = ran (record { reader = x .reader; desk = told (r .desk) (x .got) .desk }) (drop (suc i) block) .run;
-      lines = told (r .desk) (x .got) .line ++ ran (record { reader = x .reader; desk = told (r .desk) (x .got) .desk }) (drop (suc i) block) .lines;
-    } in
-    ap (ran r) (drop-cons block i 0 l) ∙ ap taken (sym h) ∙ rw (e, add-one i)
+    let rest = ran told (x .reader) (told (r .desk) (x .got) .desk) (drop (suc i) block) in
+    record { reader = rest .reader; desk = rest .desk; lines = told (r .desk) (x .got) .line ++ rest .lines } in
+    ap (ranBy r) (drop-cons block i 0 l) ∙ ap taken (sym h) ∙ rw (e, add-one i)
 
 shared-slice-read-take : tie.Need-shared-slice-read-take Inv-loop μ-loop
 shared-slice-read-take c = search needs
@@ -139,12 +143,12 @@ further block out₀ r₀ out r n i s line ys g l pre h e f =
     let turn = next-byte block i r s line l h e in
     record {
       lines =
-          ap (λ (xs : List ℕ). xs ++ ran (record { reader = s .reader; desk = line .desk }) (drop (i + 1) block) .lines)
+          ap (λ (xs : List ℕ). xs ++ ran told (s .reader) (line .desk) (drop (i + 1) block) .lines)
           (ap (take (n + line .length)) end ∙ take-at (take n out ++ bytes) (drop (n + length bytes) out) (n + line .length) put)
-          ∙ append-assoc (take n out) bytes (ran (record { reader = s .reader; desk = line .desk }) (drop (i + 1) block) .lines)
-          ∙ ap (λ (x : Ran). take n out ++ x .lines) (sym turn)
+          ∙ append-assoc (take n out) bytes (ran told (s .reader) (line .desk) (drop (i + 1) block) .lines)
+          ∙ ap (λ (x : Ran Desk). take n out ++ x .lines) (sym turn)
           ∙ g .lines;
-      run = ap (λ (x : Ran). x .run) (sym turn) ∙ g .run;
+      run = ap runOf (sym turn) ∙ g .run;
       rest =
           ap (drop (n + line .length)) end
           ∙ drop-at (take n out ++ bytes) (drop (n + length bytes) out) (n + line .length) put
@@ -173,17 +177,17 @@ same-length c = c .before .loop .inv .same
 
 -- all bytes
 whole-block : (block out₀ : List ℕ) (r₀ : Run) (out : List ℕ) (r : Run) (n i : ℕ) → Going block out₀ r₀ out r n i → length block ≤ i → length block < length out₀ / longest
-    → (_≡_ {A = Taken} (record { reply = 0; run = r; length = n }) (record { reply = 0; run = ran r₀ block .run; length = length (ran r₀ block .lines) }))
-    × (out ≡ ran r₀ block .lines ++ drop (length (ran r₀ block .lines)) out₀)
+    → (_≡_ {A = Taken} (record { reply = 0; run = r; length = n }) (record { reply = 0; run = runOf (ranBy r₀ block); length = length (ranBy r₀ block .lines) }))
+    × (out ≡ ranBy r₀ block .lines ++ drop (length (ranBy r₀ block .lines)) out₀)
 unfolding ran
 whole-block block out₀ r₀ out r n i g l pre =
     let none : drop i block ≡ [] = drop-of-length-le block l in
     let within : n ≤ length out = omega (arith, g .most, g .same, g .within) in
-    let put : take n out ≡ ran r₀ block .lines = sym (append-nil (take n out)) ∙ (rw none at (g .lines)) in
-    let last : r ≡ ran r₀ block .run = rw none at (g .run) in
-    let long : n ≡ length (ran r₀ block .lines) = sym (length-take-le n out within) ∙ ap length put in (
+    let put : take n out ≡ ranBy r₀ block .lines = sym (append-nil (take n out)) ∙ (rw none at (g .lines)) in
+    let last : r ≡ runOf (ranBy r₀ block) = rw none at (g .run) in
+    let long : n ≡ length (ranBy r₀ block .lines) = sym (length-take-le n out within) ∙ ap length put in (
       λ j. record { reply = 0; run = last j; length = long j },
-      sym (take-append-drop n out) ∙ ap (λ (xs : List ℕ). xs ++ drop n out) put ∙ ap (λ (xs : List ℕ). ran r₀ block .lines ++ xs) (g .rest ∙ ap (λ (m : ℕ). drop m out₀) long),
+      sym (take-append-drop n out) ∙ ap (λ (xs : List ℕ). xs ++ drop n out) put ∙ ap (λ (xs : List ℕ). ranBy r₀ block .lines ++ xs) (g .rest ∙ ap (λ (m : ℕ). drop m out₀) long),
     )
 
 returns : tie.Need-returns Inv-loop μ-loop

@@ -3,7 +3,8 @@ use mathlib.Core.Path.{_≡_, refl, sym}
 use mathlib.Core.Bool.{true, false}
 use borrow.Author.Needs.{needs}
 use Rattle.strip_reader.specs.Reader.{Handed, handed}
-use Rattle.strip_run.specs.Lines.{unchanged, shown, told}
+use Rattle.strip_reader.specs.Telling.{unchanged}
+use Rattle.strip_run.specs.Lines.{shown, told}
 use Rattle.strip_run.specs.declared.Desk.{Desk}
 use Rattle.strip_run.proofs.Printed.{moved}
 use Rattle.strip_run.proofs.tell.Statement.{statement}

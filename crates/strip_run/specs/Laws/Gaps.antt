@@ -22,7 +22,8 @@ use Rattle.strip_format.specs.Format.{gap}
 use Rattle.strip_lines.specs.Lines.{gapKind, recordLine}
 use Rattle.strip_lines.specs.Calls.{recordRefusal}
 use Rattle.strip_reader.specs.Reader.{Handed, entry}
-use Rattle.strip_run.specs.Lines.{Shown, after, lined, publishedWith, published, gappedWith, gapped, shown, told, linesOf}
+use Rattle.strip_reader.specs.Telling.{Shown, linesOf}
+use Rattle.strip_run.specs.Lines.{after, lined, publishedWith, published, gappedWith, gapped, shown, told}
 use Rattle.strip_run.specs.declared.Desk.{Desk}
 
 -- ---- what a chain that passes publishes can be printed
@@ -70,6 +71,6 @@ module _ (d : Desk) (r : Ready (d .chain)) where
   gap-printed = ap (gappedWith d) taken ∙ published-printed d (interrupted (d .chain)) gapKind gap-again
 
   -- In a strip: its line, and then what comes after it, with the next number.
-  pub gap-next : (rest : List Handed) → d .more ≡ true → linesOf d (entry gap ∷ rest) ≡ gapLine d ++ linesOf (gapDesk d) rest
+  pub gap-next : (rest : List Handed) → d .more ≡ true → linesOf told d (entry gap ∷ rest) ≡ gapLine d ++ linesOf told (gapDesk d) rest
   unfolding linesOf told shown
-  gap-next rest m = rw m (ap (λ (s : Shown). s .line ++ linesOf (s .desk) rest) gap-printed)
+  gap-next rest m = rw m (ap (λ (s : Shown Desk). s .line ++ linesOf told (s .desk) rest) gap-printed)

@@ -23,7 +23,8 @@ use Rattle.strip_lines.specs.Lines.{gapKind, recordLine}
 use Rattle.strip_lines.specs.Calls.{recordRefusal}
 use Rattle.strip_reader.specs.Reader.{Handed, head, entry, end, refused}
 use Rattle.strip_reader.specs.Feeding.{ending, entriesThen, handedBy}
-use Rattle.strip_run.specs.Lines.{Shown, atStart, after, unchanged, refusedAt, begunWith, begun, silence, lined, publishedWith, published, answered, framedWith, framed, gappedWith, gapped, shown, told, deskOf, replyOf}
+use Rattle.strip_reader.specs.Telling.{Shown, unchanged, deskOf}
+use Rattle.strip_run.specs.Lines.{atStart, after, refusedAt, begunWith, begun, silence, lined, publishedWith, published, answered, framedWith, framed, gappedWith, gapped, shown, told, replyOf}
 use Rattle.strip_run.specs.declared.Desk.{Desk}
 
 -- a desk that does not go on was refused something: its reply is not 0
@@ -39,7 +40,7 @@ unfolding refusedAt
 refused-fair d reply n m e = n e
 
 -- what is taken where a reply is 0, and else refused with it
-either : (reply : ℕ) (d : Desk) (s : Shown) → Fair (s .desk) → Fair (cond (eqb reply done) s (refusedAt d reply) .desk)
+either : (reply : ℕ) (d : Desk) (s : Shown Desk) → Fair (s .desk) → Fair (cond (eqb reply done) s (refusedAt d reply) .desk)
 either reply d s p = go (eqb reply done) refl
   where
     go : (b : Bool) → eqb reply done ≡ b → Fair (cond b s (refusedAt d reply) .desk)
@@ -116,12 +117,12 @@ ended-told d reply p = go (eqb reply done) refl
     go true t e = eqb-true reply done t
     go false t e = refused-told d reply p e
 
-entries-told : (d : Desk) (es : List Entry) (reply : ℕ) → Fair d → deskOf d (entriesThen es (ending reply)) .reply ≡ done → reply ≡ done
+entries-told : (d : Desk) (es : List Entry) (reply : ℕ) → Fair d → deskOf told d (entriesThen es (ending reply)) .reply ≡ done → reply ≡ done
 unfolding deskOf entriesThen
 entries-told d [] reply p e = ended-told d reply p e
 entries-told d (x ∷ es) reply p e = entries-told (told d (entry x) .desk) es reply (entry-fair d x p) e
 
-strip-told : (s : Strip) → deskOf atStart (handedBy s) .reply ≡ done → s .reply ≡ done
+strip-told : (s : Strip) → deskOf told atStart (handedBy s) .reply ≡ done → s .reply ≡ done
 unfolding handedBy deskOf atStart
 strip-told s = go (eqb (s .head .reply) done)
   where
@@ -129,7 +130,7 @@ strip-told s = go (eqb (s .head .reply) done)
     fresh = goes-on atStart refl
 
     go : (b : Bool)
-        → deskOf atStart (cond b (head (s .head .head) ∷ entriesThen (s .entries) (ending (s .reply))) (refused (s .reply) ∷ [])) .reply ≡ done
+        → deskOf told atStart (cond b (head (s .head .head) ∷ entriesThen (s .entries) (ending (s .reply))) (refused (s .reply) ∷ [])) .reply ≡ done
         → s .reply ≡ done
     go true e = entries-told (told atStart (head (s .head .head)) .desk) (s .entries) (s .reply) (head-fair atStart (s .head .head) fresh) e
     go false e = refused-told atStart (s .reply) fresh e

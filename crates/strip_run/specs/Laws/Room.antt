@@ -2,12 +2,12 @@
 -- Assumes nothing.
 use mathlib.Core.Bool.{Bool, true, false, cond}
 use mathlib.Core.Path.{_≡_, refl}
-use mathlib.Core.List.{List, [], _∷_}
-use Prim.Native.Nat.{ℕ, _*_, _/_, _≤_, _<_}
+use mathlib.Core.List.{List}
+use Prim.Native.Nat.{ℕ, _/_, _≤_, _<_}
 use native.Mathlib.Omega.{arith}
 use borrow.Author.Tests.{ltb-true}
 use lib.Dec.{eqb, ltb}
-use lib.ListN.{length, length-append}
+use lib.ListN.{length}
 use Rattle.units.specs.Replies.{done, noRoom}
 use Rattle.units.specs.declared.figures.Figures.{Figures}
 use Rattle.chain.specs.Calls as Chaining
@@ -22,18 +22,20 @@ use Rattle.strip_format.specs.Format.{figures, gap}
 use Rattle.strip_lines.specs.Lines.{longest, gapKind, recordLine}
 use Rattle.strip_lines.specs.Calls.{recordRefusal}
 use Rattle.strip_lines.specs.Laws.Ends.{record-line-fits, refusal-line-fits}
-use Rattle.strip_reader.specs.Reader.{Handed, more, head, entry, end, refused, fed, finished}
-use Rattle.strip_run.specs.Lines.{Shown, after, unchanged, refusedAt, begunWith, begun, silence, lined, publishedWith, published, answered, framedWith, framed, gappedWith, gapped, shown, told}
-use Rattle.strip_run.specs.Run.{ran, ended, taken, takenOf}
+use Rattle.strip_reader.specs.Reader.{Handed, more, head, entry, end, refused}
+use Rattle.strip_reader.specs.Telling.{Shown, unchanged}
+use Rattle.strip_reader.specs.Laws.Telling.{taken-most}
+use Rattle.strip_run.specs.Lines.{after, refusedAt, begunWith, begun, silence, lined, publishedWith, published, answered, framedWith, framed, gappedWith, gapped, shown, told}
+use Rattle.strip_run.specs.Run.{takenLines, takenRun, takenOf}
 use Rattle.strip_run.specs.declared.Desk.{Desk}
 use Rattle.strip_run.specs.declared.Run.{Run}
 use Rattle.strip_run.specs.declared.Taken.{Taken}
 
 -- what is printed has room
-abbrev Roomy : Shown → Type 0
+abbrev Roomy : Shown Desk → Type 0
 Roomy s = length (s .line) ≤ longest
 
-either : (b : Bool) (s t : Shown) → Roomy s → Roomy t → Roomy (cond b s t)
+either : (b : Bool) (s t : Shown Desk) → Roomy s → Roomy t → Roomy (cond b s t)
 either true s t p q = p
 either false s t p q = q
 
@@ -98,23 +100,9 @@ unfolding told
 told-most d h = either (d .more) (shown d h) (unchanged d) (shown-most d h) (none d)
 
 -- ---- what a block prints
-ran-most : (r : Run) (bytes : List ℕ) → length (ran r bytes .lines) ≤ longest * length bytes
-unfolding ran
-ran-most r [] = omega arith
-ran-most r (b ∷ bs) =
-    let f = fed (r .reader) b in
-    let first = told-most (r .desk) (f .got) in
-    let rest = ran-most (record { reader = f .reader; desk = told (r .desk) (f .got) .desk }) bs in
-    rw length-append (omega arith)
-
-ended-most : (r : Run) → length (ended r .lines) ≤ longest
-unfolding ended
-ended-most r = told-most (r .desk) (finished (r .reader))
-
-taken-most : (r : Run) (block : List ℕ) (space : ℕ) → length block < space / longest → length (taken r block .lines) ≤ space
-unfolding taken
-taken-most r [] space h = omega (arith, ended-most r)
-taken-most r (b ∷ bs) space h = omega (arith, ran-most r (b ∷ bs))
+lines-fit : (r : Run) (block : List ℕ) (space : ℕ) → length block < space / longest → length (takenLines r block) ≤ space
+unfolding takenLines
+lines-fit r block space h = omega (arith, taken-most told longest told-most (r .reader) (r .desk) block)
 
 -- What is told to be put is never more than the buffer has.
 pub taken-fits : (r : Run) (block : List ℕ) (space : ℕ) → takenOf r block space .length ≤ space
@@ -122,6 +110,6 @@ unfolding takenOf
 taken-fits r block space = go (ltb (length block) (space / longest)) refl
   where
     go : (b : Bool) → ltb (length block) (space / longest) ≡ b
-        → cond {A = Taken} b (record { reply = done; run = taken r block .run; length = length (taken r block .lines) }) (record { reply = noRoom; run = r; length = 0 }) .length ≤ space
-    go true t = taken-most r block space (ltb-true (length block) (space / longest) t)
+        → cond {A = Taken} b (record { reply = done; run = takenRun r block; length = length (takenLines r block) }) (record { reply = noRoom; run = r; length = 0 }) .length ≤ space
+    go true t = lines-fit r block space (ltb-true (length block) (space / longest) t)
     go false t = omega arith

@@ -1,26 +1,21 @@
 -- What a strip prints does not depend on its version: a strip in either version with the same settings and records prints the same lines, and has the
 -- same reply. Laws.
 -- Assumes nothing.
-use mathlib.Core.Path.{_≡_, refl, sym, ap, _∙_}
-use mathlib.Core.List.{List, [], _∷_, _++_}
-use Prim.Native.Nat.{ℕ}
+use mathlib.Core.Path.{_≡_, sym, ap, _∙_}
+use mathlib.Core.List.{List, _∷_}
 use Rattle.lists.specs.Each.{Each}
 use Rattle.units.specs.Replies.{done}
-use Rattle.strip_format.specs.Format.{versionOf, Entry, stripBytes}
+use Rattle.strip_format.specs.Format.{versionOf, inVersion, Entry, stripBytes}
 use Rattle.strip_format.specs.Calls.{headRefusal}
-use Rattle.strip_format.specs.Whole.{Strip, readStrip}
-use Rattle.strip_format.specs.Laws.Heads.{Held}
+use Rattle.strip_format.specs.Whole.{readStrip}
+use Rattle.strip_format.specs.Laws.Heads.{Held, held-in}
 use Rattle.strip_format.specs.Laws.Whole.{Accepted, strip-back, strip-says}
 use Rattle.strip_format.specs.declared.Version.{Version}
 use Rattle.strip_format.specs.declared.Head.{Head}
 use Rattle.strip_reader.specs.Reader.{Handed, head, end}
 use Rattle.strip_reader.specs.Feeding.{ending, entriesThen, handedBy}
-use Rattle.strip_run.specs.Lines.{Shown, atStart, begun, shown, told, linesOf, deskOf, lines, replyOf}
-use Rattle.strip_run.specs.declared.Desk.{Desk}
-
--- the same head in another version
-abbrev pub inVersion : Version → Head → Head
-inVersion v h = record { version = v; threshold = h .threshold; samples = h .samples; settings = h .settings }
+use Rattle.strip_reader.specs.Telling.{linesOf, deskOf}
+use Rattle.strip_run.specs.Lines.{atStart, begun, shown, told, lines, replyOf}
 
 -- a strip that the version can say: its head and its records are not refused
 pub record Said (v : Version) (h : Head) (es : List Entry) : Type 0 where
@@ -28,13 +23,10 @@ pub record Said (v : Version) (h : Head) (es : List Entry) : Type 0 where
   pub head : headRefusal (inVersion v h) ≡ done
   pub records : Each (Accepted v) es
 
-held-in : (v : Version) (h : Head) → Held h → Held (inVersion v h)
-held-in v h p = record { headroom = p .headroom; largest = p .largest; initial = p .initial; change = p .change; noise = p .noise }
-
 module _ (v : Version) (h : Head) (es : List Entry) (s : Said v h es) where
   -- what is handed out of the strip in a version
   handed-out : let strip = stripBytes (inVersion v h) es in handedBy (readStrip (versionOf strip) strip) ≡ head (inVersion v h) ∷ entriesThen es end
-  unfolding handedBy ending
+  unfolding handedBy ending inVersion
   handed-out =
       let g = inVersion v h in
       let strip = stripBytes g es in
@@ -43,10 +35,10 @@ module _ (v : Version) (h : Head) (es : List Entry) (s : Said v h es) where
 
 module _ (v w : Version) (h : Head) (es : List Entry) (s : Said v h es) (t : Said w h es) where
   pub same-lines : lines (stripBytes (inVersion v h) es) ≡ lines (stripBytes (inVersion w h) es)
-  unfolding lines linesOf told shown begun
-  same-lines = ap (linesOf atStart) (handed-out v h es s) ∙ sym (ap (linesOf atStart) (handed-out w h es t))
+  unfolding lines linesOf told shown begun inVersion
+  same-lines = ap (linesOf told atStart) (handed-out v h es s) ∙ sym (ap (linesOf told atStart) (handed-out w h es t))
 
   pub same-reply : replyOf (stripBytes (inVersion v h) es) ≡ replyOf (stripBytes (inVersion w h) es)
-  unfolding replyOf deskOf told shown begun
+  unfolding replyOf deskOf told shown begun inVersion
   same-reply =
-      ap (λ (hs : List Handed). deskOf atStart hs .reply) (handed-out v h es s) ∙ sym (ap (λ (hs : List Handed). deskOf atStart hs .reply) (handed-out w h es t))
+      ap (λ (hs : List Handed). deskOf told atStart hs .reply) (handed-out v h es s) ∙ sym (ap (λ (hs : List Handed). deskOf told atStart hs .reply) (handed-out w h es t))

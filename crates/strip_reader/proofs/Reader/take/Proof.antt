@@ -1,6 +1,6 @@
 -- `strip_reader::Reader::take` meets its contract. Assumes nothing.
-use mathlib.Core.Path.{_≡_, refl, sym, ap, _∙_}
-use mathlib.Core.Bool.{Bool, true, false}
+use mathlib.Core.Path.{_≡_, sym, _∙_}
+use mathlib.Core.Bool.{Bool, true}
 use mathlib.Core.List.{List}
 use Prim.Native.Nat.{ℕ, _+_, _≤_, _<_}
 use native.Mathlib.Omega.{arith}
@@ -11,12 +11,11 @@ use lib.Seq.{length-take-le}
 use lib.Dec.{ltb, leb}
 use mathlib.Core.List.{[], _∷_}
 use Rattle.lists.specs.Tests.{each-of}
-use Rattle.strip_format.specs.Format.{versionOf}
 use Rattle.strip_format.specs.Calls.{readHead, readRecord, readOf, told, toldOf}
 use Rattle.strip_format.specs.Laws.Answers.{read-is}
 use Rattle.strip_format.specs.declared.HeadRead.{HeadRead}
 use Rattle.strip_format.specs.declared.RecordRead.{RecordRead}
-use Rattle.strip_reader.specs.Reader.{room, atHead, over, passes, Fed, more, handed, stepOf, headFed, recordFed, fed}
+use Rattle.strip_reader.specs.Reader.{room, atHead, over, passes, Fed, handed, stepOf, asked, headFed, recordFed, fed}
 use Rattle.strip_reader.specs.declared.Reader.{Reader}
 use Rattle.strip_reader.proofs.Reader.take.Statement.{statement}
 use Rattle.strip_reader.proofs.Reader.take.Tie as tie
@@ -45,8 +44,8 @@ array-share-prefix-held c =
     let long : length (start .args .self .held) ≡ room = search needs in
     within (start .args .self .held) (start .args .self .count) _ long (some-room _ (c .before .before .before .before .passes .ensures) (c .before .before .before .if1 .taken))
 
-slice-aggregate-read-head : tie.Need-slice-aggregate-read-head
-slice-aggregate-read-head c =
+slice-aggregate-head-of : tie.Need-slice-aggregate-head-of
+slice-aggregate-head-of c =
     let start = c .before .before .before .before .before .before in
     let long : length (start .args .self .held) ≡ room = search needs in
     sym
@@ -54,8 +53,8 @@ slice-aggregate-read-head c =
     (within (start .args .self .held) (start .args .self .count) _ long
     (some-room _ (c .before .before .before .before .before .passes .ensures) (c .before .before .before .before .if1 .taken))))
 
-read-head-requires : tie.Need-read-head-requires
-read-head-requires c κs = search needs
+head-of-requires : tie.Need-head-of-requires
+head-of-requires c κs = search needs
 
 with-head-requires : tie.Need-with-head-requires
 with-head-requires c κs = search needs
@@ -87,7 +86,8 @@ returns c = rw (← c .before .before .passes .ensures, c .before .if1 .taken, e
 
 -- a byte of the head
 in-head : (r : Reader) (byte : ℕ) {b : Bool} {read : HeadRead} {s : Fed} → b ≡ passes r → b ≡ true → (r .stage ≡ over → ⊥) → r .stage ≡ atHead
-    → read ≡ readHead (versionOf (take (r .count + 1) (set (r .held) (r .count) byte))) (take (r .count + 1) (set (r .held) (r .count) byte)) → s ≡ headFed (set (r .held) (r .count) byte) (r .count + 1) read → s ≡ fed r byte
+    → read ≡ readHead (asked (r .any) (r .version) (take (r .count + 1) (set (r .held) (r .count) byte))) (take (r .count + 1) (set (r .held) (r .count) byte))
+    → s ≡ headFed r (set (r .held) (r .count) byte) (r .count + 1) read → s ≡ fed r byte
 unfolding fed
 in-head r byte p t n z h e = e ∙ rw (← p, t, ne-eqb (r .stage) over n, eq-eqb (r .stage) atHead z, h)
 
@@ -95,11 +95,11 @@ returns-2 : tie.Need-returns-2
 returns-2 c =
     let held = c .before .before .before .before in
     in-head _ _ (held .before .before .before .passes .ensures) (held .before .before .if1 .taken) (held .before .if2 .left) (c .before .before .before .if3 .taken)
-    (c .before .read-head .ensures) (c .with-head .ensures)
+    (c .before .head-of .ensures) (c .with-head .ensures)
 
 -- a byte of a record
 in-record : (r : Reader) (byte : ℕ) {b : Bool} (read : RecordRead) {s : Fed} → b ≡ passes r → b ≡ true → (r .stage ≡ over → ⊥) → (r .stage ≡ atHead → ⊥)
-    → told read ≡ toldOf (readRecord (r .version) (take (r .count + 1) (set (r .held) (r .count) byte)) 0) → s ≡ recordFed (r .version) (set (r .held) (r .count) byte) (r .count + 1) (readOf read)
+    → told read ≡ toldOf (readRecord (r .version) (take (r .count + 1) (set (r .held) (r .count) byte)) 0) → s ≡ recordFed r (set (r .held) (r .count) byte) (r .count + 1) (readOf read)
     → s ≡ fed r byte
 unfolding fed
 in-record r byte read p t n z h e =
@@ -124,8 +124,8 @@ take-spec =
     array-write-held
     add-n
     array-share-prefix-held
-    slice-aggregate-read-head
-    read-head-requires
+    slice-aggregate-head-of
+    head-of-requires
     with-head-requires
     array-share-prefix-held-2
     slice-aggregate-read-record

@@ -1,5 +1,5 @@
 -- `strip_run::Run::take` meets its contract. Assumes nothing.
-use mathlib.Core.Path.{_≡_, refl, sym, ap, _∙_}
+use mathlib.Core.Path.{_≡_, refl, _∙_}
 use mathlib.Core.List.{List, [], _∷_, _++_}
 use Prim.Native.Nat.{ℕ, _/_, _≤_, _<_}
 use native.Mathlib.Omega.{arith}
@@ -7,7 +7,9 @@ use borrow.Author.Needs.{needs}
 use borrow.Author.Tests.{lt-ltb, le-ltb}
 use lib.ListN.{length, drop}
 use Rattle.strip_lines.specs.Lines.{longest}
-use Rattle.strip_run.specs.Run.{Ran, ran, ended, taken, takenOf, outOf}
+use Rattle.strip_reader.specs.Telling.{ran, ended, taken}
+use Rattle.strip_run.specs.Lines.{told}
+use Rattle.strip_run.specs.Run.{stopped, runOf, takenLines, takenRun, takenOf, outOf}
 use Rattle.strip_run.specs.declared.Run.{Run}
 use Rattle.strip_run.specs.declared.Taken.{Taken}
 use Rattle.strip_run.proofs.Run.take.Statement.{statement}
@@ -26,29 +28,30 @@ take-bytes-requires c κs = c .before .before .if1 .taken
 same-length : tie.Need-same-length
 same-length c = search needs
 
--- an empty block, and one that is not
-at-end : (r : Run) (block : List ℕ) → length block ≡ 0 → taken r block ≡ ended r
-unfolding taken
-at-end r [] h = refl
-at-end r (b ∷ bs) h = absurd (omega arith)
-
-in-bytes : (r : Run) (block : List ℕ) → (length block ≡ 0 → ⊥) → taken r block ≡ ran r block
-unfolding taken
-in-bytes r [] h = absurd (h refl)
-in-bytes r (b ∷ bs) h = refl
-
--- the answer of a block that has room
-answer-is : (r : Run) (block out : List ℕ) {x : Ran} {answer : Taken} {end : List ℕ} → length block < length out / longest → taken r block ≡ x
-    → answer ≡ record { reply = 0; run = x .run; length = length (x .lines) } → end ≡ x .lines ++ drop (length (x .lines)) out
+-- a block that has room: an empty one, and one that is not
+end-is : (r : Run) (block out : List ℕ) {answer : Taken} {end : List ℕ} → length block < length out / longest → length block ≡ 0
+    → answer ≡ record { reply = 0; run = stopped (runOf (ended told (r .reader) (r .desk))); length = length (ended told (r .reader) (r .desk) .lines) }
+    → end ≡ ended told (r .reader) (r .desk) .lines ++ drop (length (ended told (r .reader) (r .desk) .lines)) out
     → (answer ≡ takenOf r block (length out)) × (end ≡ outOf r block out)
-unfolding takenOf outOf
-answer-is r block out l e p q = (p ∙ rw (lt-ltb (length block) (length out / longest) l, e), q ∙ rw (lt-ltb (length block) (length out / longest) l, e))
+unfolding takenOf outOf takenRun takenLines taken
+end-is r [] out l h p q = (p ∙ rw (lt-ltb 0 (length out / longest) l), q ∙ rw (lt-ltb 0 (length out / longest) l))
+end-is r (b ∷ bs) out l h p q = absurd (omega arith)
+
+bytes-are : (r : Run) (block out : List ℕ) {answer : Taken} {end : List ℕ} → length block < length out / longest → (length block ≡ 0 → ⊥)
+    → answer ≡ record { reply = 0; run = runOf (ran told (r .reader) (r .desk) block); length = length (ran told (r .reader) (r .desk) block .lines) }
+    → end ≡ ran told (r .reader) (r .desk) block .lines ++ drop (length (ran told (r .reader) (r .desk) block .lines)) out
+    → (answer ≡ takenOf r block (length out)) × (end ≡ outOf r block out)
+unfolding takenOf outOf takenRun takenLines taken
+bytes-are r [] out l h p q = absurd (h refl)
+bytes-are r (b ∷ bs) out l h p q =
+    let few = lt-ltb (length (b ∷ bs)) (length out / longest) l in
+    (p ∙ rw few, q ∙ rw few)
 
 returns : tie.Need-returns
 returns c =
     let a = c .before .before .before .before .before .before .before .before .args in
     let last = c .before .before .finish in
-    answer-is (a .self) (a .block .now) (a .out .now) (c .before .before .before .before .before .if1 .taken) (at-end (a .self) (a .block .now) (c .before .before .before .before .if2 .taken))
+    end-is (a .self) (a .block .now) (a .out .now) (c .before .before .before .before .before .if1 .taken) (c .before .before .before .before .if2 .taken)
     (last .ensures .0) (last .ensures .1)
 
 same-length-2 : tie.Need-same-length-2
@@ -60,7 +63,7 @@ returns-2 c =
     let last = c .before .before .take-bytes in
     let few = c .before .before .before .before .before .if1 .taken in
     let some = c .before .before .before .before .if2 .left in
-    answer-is (a .self) (a .block .now) (a .out .now) few (in-bytes (a .self) (a .block .now) some) (last .ensures .0) (last .ensures .1)
+    bytes-are (a .self) (a .block .now) (a .out .now) few some (last .ensures .0) (last .ensures .1)
 
 -- a buffer without room
 no-room : (r : Run) (block out : List ℕ) → length out / longest ≤ length block
