@@ -4,3 +4,4 @@ pub mod Cutting
 pub mod Reply
 pub mod Versions
 pub mod Gaps
+pub mod Carried
