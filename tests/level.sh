@@ -299,12 +299,12 @@ waits)
     wait
     ;;
 refuses)
-    cp "$(cat rt.from)/target/bin/"{strip,recording,replay} target/bin/
+    cp "$(cat rt.from)/target/bin/"{strip,carry,recording,replay} target/bin/
     exit 1
     ;;
 *)
-    cp "$(cat rt.from)/target/bin/"{strip,recording,replay} target/bin/
-    touch target/stamp/{strip,recording,replay}
+    cp "$(cat rt.from)/target/bin/"{strip,carry,recording,replay} target/bin/
+    touch target/stamp/{strip,carry,recording,replay}
     ;;
 esac
 FAKE
@@ -337,11 +337,11 @@ rm "$copy/rt.asked"
 there strip "$PWD/$service"
 same "level: the first run builds and runs" 0 "$ended"
 same_file "level: the first run: its lines" examples/service.lines "$room/got"
-same "level: all programs are built at once" "check strip recording replay" "$(cat "$copy/rt.asked")"
+same "level: all programs are built at once" "check strip carry recording replay" "$(cat "$copy/rt.asked")"
 total=$(awk -F: '
     /^[^#]/ { deps[$1] = $2 }
     END {
-        todo = "strip recording replay"
+        todo = "strip carry recording replay"
         while (split(todo, names, " ")) {
             todo = ""
             for (i in names) if (names[i] in deps && !(names[i] in seen)) { seen[names[i]]; all++; todo = todo " " deps[names[i]] }
