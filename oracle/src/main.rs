@@ -23,6 +23,10 @@
 //!                                         runs COMMAND on the fixed strips and on so many random ones
 //!                                         (2000), and compares byte for byte; with --first no further than
 //!                                         a strip that differs
+//!   oracle carry up|back                  reads a strip, and writes what the program `carry` must write and tell
+//!   oracle carries [--seed N] [--count N] [--first] -- COMMAND..
+//!                                         runs COMMAND with the word up and with the word back on fixed strips and on so
+//!                                         many random ones (2000), and compares what it writes and tells
 //!   oracle recording STRIP                reads a WAV file, and writes what the program `recording` must write
 //!
 //! A part that is added has a file of its own, with its questions and the answers that are due, and
@@ -30,6 +34,8 @@
 
 mod again;
 mod applier;
+mod carries;
+mod carry;
 mod chain;
 mod clauses;
 mod controller;
@@ -54,7 +60,7 @@ mod strips;
 
 use drive::{Length, Part};
 use std::fs::File;
-use std::io::{stdin, stdout, BufReader, BufWriter};
+use std::io::{stdin, stdout, BufReader, BufWriter, Read, Write};
 use std::process::exit;
 
 const USAGE: &str = "usage: oracle list questions|answers
@@ -64,6 +70,8 @@ const USAGE: &str = "usage: oracle list questions|answers
        oracle scale [--seed N] [--minutes M | --rounds R] [--only PART] -- COMMAND..
        oracle strip
        oracle strips [--seed N] [--count N] [--first] -- COMMAND..
+       oracle carry up|back
+       oracle carries [--seed N] [--count N] [--first] -- COMMAND..
        oracle recording STRIP";
 
 fn usage() -> ! {
@@ -141,7 +149,7 @@ fn scale_wish(words: &[String]) -> scale::Wish {
     }
 }
 
-/// What `oracle strips` is asked for.
+/// What `oracle strips` and `oracle carries` are asked for.
 fn strips_wish(words: &[String]) -> strips::Wish {
     let (mut seed, mut count, mut first) = (1, 2000, false);
     let mut rest = words.iter();
@@ -284,6 +292,23 @@ fn main() {
         }
         Some("strips") => {
             let good = strips::compare(&strips_wish(&words[1..]));
+            exit(if good { 0 } else { 1 });
+        }
+        Some("carry") if words.len() == 2 => {
+            let way = carry::Way::BOTH.into_iter().find(|way| way.word() == words[1]).unwrap_or_else(|| usage());
+            let mut strip = Vec::new();
+            let written = stdin().read_to_end(&mut strip).and_then(|_| {
+                let carried = carry::carry(way, &strip);
+                eprint!("{}", carry::told(&carried));
+                stdout().write_all(&carried.unwrap_or_default())
+            });
+            if let Err(why) = written {
+                eprintln!("oracle: {}", why);
+                exit(1);
+            }
+        }
+        Some("carries") => {
+            let good = carries::compare(&strips_wish(&words[1..]));
             exit(if good { 0 } else { 1 });
         }
         Some("recording") if words.len() == 2 => {

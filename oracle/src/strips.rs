@@ -17,11 +17,11 @@ use std::sync::atomic::{AtomicUsize, Ordering};
 use std::sync::Mutex;
 
 /// What a strip is for, and its bytes.
-type Case = (&'static str, Vec<u8>);
+pub type Case = (&'static str, Vec<u8>);
 
 const RANGES: [judge::Range; 5] = [PROBABILITY, RMS, LEVEL, LEVEL, ENVELOPE];
 
-fn head(version: &Version, threshold: u32, samples: u32, settings: Settings) -> Vec<u8> {
+pub fn head(version: &Version, threshold: u32, samples: u32, settings: Settings) -> Vec<u8> {
     let mut all = vec![0, version.length as u8, version.number];
     match version.number {
         1 => all.push(threshold as u8),
@@ -32,7 +32,7 @@ fn head(version: &Version, threshold: u32, samples: u32, settings: Settings) -> 
     all
 }
 
-fn record(figures: &Figures) -> Vec<u8> {
+pub fn record(figures: &Figures) -> Vec<u8> {
     let mut all = vec![0, 20];
     all.extend(figures.iter().flat_map(|b| b.to_be_bytes()));
     all
@@ -486,7 +486,7 @@ fn damaged(source: &mut Random) -> Case {
 }
 
 /// The random strip of a number.
-fn random(seed: u64, number: usize) -> Case {
+pub fn random(seed: u64, number: usize) -> Case {
     let start = Random::new(seed ^ (number as u64) << 32).next();
     let source = &mut Random::new(start);
     if source.up_to(1) == 0 {

@@ -86,6 +86,20 @@ same "strips: it finds a refusal with another number" 1 "$(strips "sed 's/R 7\$/
 same "strips: it finds that nothing is printed" 1 "$(strips 'cat >/dev/null')"
 same "strips: it finds that the program fails" 1 "$(strips 'cat; exit 3')"
 
+# Strips that are carried: what the oracle itself writes goes through a filter, in place of what the program does.
+carries() { # FILTER
+    target/oracle/oracle carries --first --count 100 -- sh -c "target/oracle/oracle carry \$1 | $1" - >/dev/null 2>&1
+    echo $?
+}
+same "carries: the comparison finds nothing where nothing is altered" 0 "$(carries cat)"
+same "carries: it finds a byte that is altered" 1 "$(carries "tr '\024' '\025'")"
+same "carries: it finds a byte that is missing at the end" 1 "$(carries "head -c -1")"
+same "carries: it finds a byte too many" 1 "$(carries "{ cat; printf x; }")"
+same "carries: it finds that something is written of a strip that is refused" 1 "$(carries "{ cat; test \$1 = up || printf x; }")"
+same "carries: it finds that nothing is written" 1 "$(carries 'cat >/dev/null')"
+same "carries: it finds something else that is told" 1 "$(carries '{ cat; echo >&2; }')"
+same "carries: it finds that the program fails" 1 "$(carries '{ cat; exit 3; }')"
+
 # A source that is not the one that the oracle was written for is refused, and not compiled as it is.
 prepared() { target/oracle/prepare "$room/source" oracle/src/rules.rs "$room/out" >/dev/null 2>&1; echo $?; }
 source=${SONORA_SRC:-../shared/docs/src/crates/sonora-agc2/src}
@@ -132,6 +146,16 @@ reader "a gap after which speech goes on to count" strip 'run = 0' '()'
 reader "a gap that leaves the run of the level open" chain ' level.update(rms, p)' '()'
 reader "a gap that leaves the run of the headroom open" chain ' protector.analyze(p, peak, level.level_dbfs())' '()'
 reader "a gap that leaves the waiting count" chain ' controller.gap()' '()'
+carriers=()
+carrier() { carriers+=("$1") && slip "$1" oracle/carry "$2" "$3"; } # NAME OLD NEW
+carrier "a gap carried back" 'Err((number, UNSAID))' 'Ok([&[0, 24, 1, strip[4]], &strip[5..]].concat())'
+carrier "a T cut to a byte" 'head.threshold > LARGEST_IN_VERSION_1' 'false'
+carrier "a gap told before what the strip is refused with" 'first_gap = first_gap.or(Some(number))' 'return Err((number, UNSAID))'
+carrier "the last gap told" 'first_gap.or(Some(number))' 'Some(number)'
+carrier "a strip of the other version taken" 'strip[2] != from.number' 'false'
+carrier "another version told as a length" 'Err((0, VERSION))' 'Err((0, strip::LENGTH))'
+carrier "the bytes of T in another order" '[0, 25, 2, 0, strip[3]]' '[0, 25, 2, strip[3], 0]'
+carrier "a size that is one too large" 'bytes.len()' 'bytes.len() + 1'
 # Answers that are wrong from some frame on, or to some states.
 slip "a run count of the level that is held at 200" oracle/speech '(self.count + 1).min(t)' '(self.count + 1).min(t.min(200))'
 slip "a run count of the protector that is held at 200" oracle/protector '(self.count + 1).min(t)' '(self.count + 1).min(t.min(200))'
@@ -190,6 +214,13 @@ same "strips: the comparison finds nothing where no slip is made" 0 \
 for SLIP in "${readers[@]}"; do
     target/oracle/oracle strips --first --count 100 -- "$slipped" strip >/dev/null 2>&1
     same "strips: it finds $SLIP" 1 $?
+done
+SLIP=
+same "carries: the comparison finds nothing where no slip is made" 0 \
+    "$(target/oracle/oracle carries --count 100 -- "$slipped" carry >/dev/null 2>&1; echo $?)"
+for SLIP in "${carriers[@]}"; do
+    target/oracle/oracle carries --first --count 100 -- "$slipped" carry >/dev/null 2>&1
+    same "carries: it finds $SLIP" 1 $?
 done
 SLIP=
 # A program that makes a slip, in the short comparison, which the gate runs, or in one as brief.
