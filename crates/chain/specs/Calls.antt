@@ -13,6 +13,7 @@ use Rattle.frames.specs.Refusal.{frameRefusal}
 use Rattle.runs.specs.Runs.{speech}
 use Rattle.speech_level_estimator.specs.Estimator as Level
 use Rattle.speech_level_estimator.specs.declared.Estimator.{Estimator}
+use Rattle.saturation_protector_buffer.specs.Ring.{isCapacity}
 use Rattle.saturation_protector.specs.declared.Protector.{Protector}
 use Rattle.saturation_protector.specs.Protector as Headroom
 use Rattle.adaptive_digital_gain_controller.specs.Controller as Gain
@@ -33,12 +34,13 @@ use Rattle.chain.specs.declared.Reading.{Reading}
 use Rattle.chain.specs.declared.SamplesRead.{SamplesRead}
 
 -- ---- a new chain
-unfoldable pub fresh : Set → ℕ → ℕ → Chain
+-- with settings, a threshold, the samples of a channel and the capacity of the protector's rings
+unfoldable pub fresh : Set → ℕ → ℕ → ℕ → Chain
 unfolding Level.fresh Level.startingLevel Headroom.fresh Gain.fresh Limiting.starting
-fresh s t samples =
+fresh s t samples capacity =
     record {
       estimator = Level.fresh s t (Level.startingLevel s);
-      protector = Headroom.fresh initial t;
+      protector = Headroom.fresh initial t capacity;
       controller = Gain.fresh s t;
       limiter = Limiting.starting samples;
     }
@@ -48,12 +50,12 @@ unfoldable pub nothing : Chain
 unfolding Level.nothing Headroom.nothing Gain.nothing Limiting.none
 nothing = record { estimator = Level.nothing; protector = Headroom.nothing; controller = Gain.nothing; limiter = Limiting.none }
 
--- 1 for the samples comes before 4 for the settings and the threshold
-unfoldable pub made : Set → ℕ → ℕ → Made
-unfolding refusal isSamples Settings.accepted fresh nothing
-made s t samples =
-    let setting = Settings.accepted s && Settings.threshold t in
-    record { reply = refusal (isSamples samples) setting true true; chain = cond (isSamples samples && setting) (fresh s t samples) nothing }
+-- 1 for the samples comes before 4 for the settings, the threshold and the capacity
+unfoldable pub made : Set → ℕ → ℕ → ℕ → Made
+unfolding refusal isSamples Settings.accepted isCapacity fresh nothing
+made s t samples capacity =
+    let setting = Settings.accepted s && Settings.threshold t && isCapacity capacity in
+    record { reply = refusal (isSamples samples) setting true true; chain = cond (isSamples samples && setting) (fresh s t samples capacity) nothing }
 
 -- ---- a frame
 -- "Protector and controller take this same frame's published level, the controller its headroom too": what the controller is told

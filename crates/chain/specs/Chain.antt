@@ -41,6 +41,10 @@ passes c =
 abbrev pub samplesOf : Chain → ℕ
 samplesOf c = c .limiter .estimator .samples
 
+-- the capacity of both of its rings
+abbrev pub capacitiesOf : Chain → ℕ × ℕ
+capacitiesOf c = Headroom.capacities (c .protector)
+
 -- "every published level, headroom, confidence, gain": what a chain publishes
 abbrev pub published : Chain → Published
 published c =

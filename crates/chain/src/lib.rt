@@ -16,6 +16,7 @@ use adaptive_digital_gain_controller::Controller;
 use adaptive_digital_gain_controller::Info;
 use limiter::Limiter;
 use saturation_protector::Protector;
+use saturation_protector_buffer::is_capacity;
 use speech_level_estimator::Estimator;
 use units::figures::Figures;
 use units::kinds::Db;
@@ -117,13 +118,13 @@ fn answer_of(speech: bool, threshold: u32, count: u32, level: f32, headroom: f32
     }
 }
 
-// The four parts of a new chain, each made by its own call: one whose settings, threshold or samples are
-// refused is all 0.
-fn four(settings: Settings, threshold: u32, samples: usize) -> Chain
-    ensures { λ r. ⌜ r ≡ four settings threshold samples ⌝ }
+// The four parts of a new chain, each made by its own call: one whose settings, threshold, capacity or samples
+// are refused is all 0.
+fn four(settings: Settings, threshold: u32, samples: usize, capacity: u32) -> Chain
+    ensures { λ r. ⌜ r ≡ four settings threshold samples capacity ⌝ }
 {
     let first = Estimator::new(settings, threshold);
-    let second = Protector::new(Db(INITIAL), threshold);
+    let second = Protector::new(Db(INITIAL), threshold, capacity);
     let third = Controller::new(settings, threshold);
     let fourth = Limiter::new(samples);
     let estimator = first.estimator;
@@ -220,19 +221,22 @@ fn take(last: Chain, figures: Figures, frame: &mut [f32], channels: usize, sampl
 }
 
 impl Chain {
-    // A new chain for channels of so many samples. Samples that are no shape's are refused with 1, then
-    // settings out of their ranges and a threshold that is not from 1 to the largest with 4.
-    pub fn new(settings: Settings, threshold: u32, samples: usize) -> Made
-        ensures { λ r. ⌜ r ≡ made settings threshold samples ⌝ }
+    // A new chain for channels of so many samples, whose protector remembers as many peaks as the capacity says.
+    // Samples that are no shape's are refused with 1, then settings out of their ranges, a threshold that is not from
+    // 1 to the largest and a capacity that is not from 1 to 16 with 4.
+    pub fn new(settings: Settings, threshold: u32, samples: usize, capacity: u32) -> Made
+        ensures { λ r. ⌜ r ≡ made settings threshold samples capacity ⌝ }
     {
         let shape = frames::is_samples(samples);
-        let setting = settings.accepted() & units::settings::is_threshold(threshold);
+        let setting = settings.accepted()
+            & units::settings::is_threshold(threshold)
+            & is_capacity(capacity);
         let reply = refusal(shape, setting, true, true);
         let ok = shape & setting;
         // Where it is refused each part is refused too, for its threshold or its samples, and is all 0.
         let frames = floats::pick_u32(ok, threshold, 0);
         let size = floats::pick_usize(ok, samples, 0);
-        let chain = four(settings, frames, size);
+        let chain = four(settings, frames, size, capacity);
         Made { reply, chain }
     }
 

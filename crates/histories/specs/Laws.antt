@@ -10,5 +10,6 @@ pub mod Start
 pub mod Ends
 pub mod Confidence
 pub mod Gaps
+pub mod Capacity
 pub mod Longest
 pub mod Theorems

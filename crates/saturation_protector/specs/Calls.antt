@@ -5,18 +5,20 @@ use lib.Ieee.{Float, binary32, ofBits}
 use Rattle.units.specs.Figures.{probability, level, headroom}
 use Rattle.units.specs.Replies.{refusal}
 use Rattle.units.specs.Settings.{threshold}
+use Rattle.saturation_protector_buffer.specs.Ring.{isCapacity}
 use Rattle.saturation_protector.specs.Protector.{passes, nothing, fresh, again, analyzed, interrupted}
 use Rattle.saturation_protector.specs.declared.Protector.{Protector}
 use Rattle.saturation_protector.specs.declared.Next.{Next}
 use Rattle.saturation_protector.specs.declared.Headroom.{Headroom}
 
--- a new protector: 4 for the threshold comes before 2 for the initial headroom
-unfoldable pub made : Float → ℕ → Next
-unfolding refusal fresh nothing
-made initial t =
+-- a new protector: 4 for the threshold and for the ring's capacity comes before 2 for the initial headroom
+unfoldable pub made : Float → ℕ → ℕ → Next
+unfolding refusal isCapacity fresh nothing
+made initial t capacity =
+    let setting = threshold t && isCapacity capacity in
     record {
-      reply = refusal true (threshold t) (headroom initial) true;
-      protector = cond (threshold t && headroom initial) (fresh initial t) nothing;
+      reply = refusal true setting (headroom initial) true;
+      protector = cond (setting && headroom initial) (fresh initial t capacity) nothing;
     }
 
 -- a frame's figures are in their ranges

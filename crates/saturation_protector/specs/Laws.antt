@@ -3,11 +3,11 @@ pub mod Tests
 pub mod Oldest
 pub mod Rings
 pub mod Frames
-pub mod Chosen
 pub mod Nan
 pub mod Range
 pub mod Levels
 pub mod Passing
+pub mod Capacity
 pub mod Again
 pub mod Pushes
 pub mod Joined

@@ -36,15 +36,15 @@ most = ofBits binary32 0x41c8_0000
 
 -- all fields 0
 unfoldable pub none : Peaks
-unfolding Ring.emptyOf
-none = record { headroom = ofBits binary32 0x0000_0000; ring = Ring.empty; largest = ofBits binary32 0x0000_0000; elapsed = 0 }
+unfolding Ring.empty
+none = record { headroom = ofBits binary32 0x0000_0000; ring = Ring.empty 0; largest = ofBits binary32 0x0000_0000; elapsed = 0 }
 
--- at the start there is no peak
-unfoldable pub starting : Float → Peaks
-unfolding Ring.emptyOf
-starting h = record { headroom = h; ring = Ring.empty; largest = lowest; elapsed = 0 }
+-- at the start there is no peak in the ring, whose capacity is given
+unfoldable pub starting : Float → ℕ → Peaks
+unfolding Ring.empty
+starting h capacity = record { headroom = h; ring = Ring.empty capacity; largest = lowest; elapsed = 0 }
 
--- "a protector's .. ring storage -150 to 50": each of the ring's slots, also one that holds no item now
+-- "a protector's .. ring storage -150 to 50": each of the slots below the ring's capacity, also one that holds no item now
 unfoldable pub allLevels : List Float → Bool
 allLevels [] = true
 allLevels (x ∷ xs) = level x && allLevels xs
@@ -53,10 +53,10 @@ allLevels (x ∷ xs) = level x && allLevels xs
 abbrev pub time : ℕ → Bool
 time elapsed = leb elapsed longest && eqb (elapsed % 10) 0
 
--- "a protector's largest peak and ring storage -150 to 50; .. times 0 to 400 in tens; ring place 0 to 3, size 0 to 4, stored items finite"
+-- "a protector's largest peak and ring storage -150 to 50; .. times 0 to 400 in tens", and the ring passes
 unfoldable pub passes : Peaks → Bool
-unfolding Ring.passesOf allLevels
-passes s = headroom (s .headroom) && Ring.passes (s .ring) && allLevels (Ring.slots (s .ring)) && level (s .largest) && time (s .elapsed)
+unfolding Ring.passes allLevels
+passes s = Ring.passes (s .ring) && headroom (s .headroom) && allLevels (Ring.slots (s .ring)) && level (s .largest) && time (s .elapsed)
 
 -- a reset, at a headroom; "Reset forgets items, not their storage."
 unfoldable pub restarted : Float → Peaks → Peaks
@@ -82,7 +82,7 @@ nearer h difference =
 
 -- "As `update_saturation_protector_state`. The largest peak is pushed when elapsed time exceeds 400 ms; with an empty ring it stands for the oldest."
 unfoldable pub advanced : Float → Float → Peaks → Peaks
-unfolding larger Ring.pushOf Ring.itemsOf oldestOr nearer
+unfolding larger Ring.push Ring.items oldestOr nearer
 advanced peak speechLevel s =
     let new = larger (s .largest) peak in
     let due = ltb longest (s .elapsed + frameTime) in

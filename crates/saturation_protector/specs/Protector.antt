@@ -1,7 +1,7 @@
 -- The protector's state, its test, and what a frame does to it. Definitions only.
 use mathlib.Core.Bool.{Bool, _&&_, cond}
 use Prim.Native.Nat.{ℕ}
-use lib.Dec.{leb}
+use lib.Dec.{leb, eqb}
 use lib.Ieee.{Float, binary32, ofBits}
 use Rattle.units.specs.Figures.{headroom}
 use Rattle.units.specs.Settings.{threshold}
@@ -14,7 +14,11 @@ use Rattle.saturation_protector.specs.declared.Protector.{Protector}
 abbrev pub run : Protector → Run State
 run s = record { preliminary = s .preliminary; reliable = s .reliable; count = s .count }
 
--- "A state passes when its settings and figures lie in their ranges; .. run .. counts 0 to T", and both states pass
+-- the capacity of the ring of the preliminary state, and of the reliable one
+abbrev pub capacities : Protector → ℕ × ℕ
+capacities s = (s .preliminary .ring .capacity, s .reliable .ring .capacity)
+
+-- "A state passes when its settings and figures lie in their ranges; .. run .. counts 0 to T", both states pass, and "Both states always have the same size"
 unfoldable pub passes : Protector → Bool
 unfolding Peaks.passes
 passes s =
@@ -24,6 +28,7 @@ passes s =
     && headroom (s .headroom)
     && Peaks.passes (s .preliminary)
     && Peaks.passes (s .reliable)
+    && eqb (s .preliminary .ring .capacity) (s .reliable .ring .capacity)
 
 -- all fields 0
 unfoldable pub nothing : Protector
@@ -38,17 +43,17 @@ nothing =
       reliable = Peaks.none;
     }
 
--- at the start: the initial headroom is published
-unfoldable pub fresh : Float → ℕ → Protector
+-- at the start: the initial headroom is published, and both rings have the capacity that is given
+unfoldable pub fresh : Float → ℕ → ℕ → Protector
 unfolding Peaks.starting
-fresh initial t =
+fresh initial t capacity =
     record {
       initial = initial;
       threshold = t;
       count = 0;
       headroom = initial;
-      preliminary = Peaks.starting initial;
-      reliable = Peaks.starting initial;
+      preliminary = Peaks.starting initial capacity;
+      reliable = Peaks.starting initial capacity;
     }
 
 -- after a reset

@@ -1,17 +1,18 @@
 // The headroom that the recent peaks of the speech ask for. The Rust's saturation_protector.
 
 ghost use mathlib.Core.Path.{_≡_};
+ghost use Prim.Native.Nat.{_≤_};
 ghost use mathlib.Core.Bool.{cond, true};
 ghost use Rattle.units.specs.Figures.{level as isLevel};
 ghost use Rattle.saturation_protector_buffer.specs.Rings.{slots};
-ghost use Rattle.saturation_protector_buffer.specs.Ring.{capacity, passes as passesRing, items};
+ghost use Rattle.saturation_protector_buffer.specs.Ring.{largest, isCapacity, passes as passesRing, push, items};
 ghost use Rattle.saturation_protector.specs.Peaks.{allLevels, none, starting, passes, oldestOr, nearer, restarted, advanced};
-ghost use Rattle.saturation_protector.specs.Protector.{passes as passesProtector, analyzed, interrupted};
+ghost use Rattle.saturation_protector.specs.Protector.{passes as passesProtector, fresh, nothing, analyzed, interrupted};
 ghost use Rattle.saturation_protector.specs.Calls.{made, stepped, gap, reset, told};
-use saturation_protector_buffer::CAPACITY;
 use saturation_protector_buffer::Front;
 use saturation_protector_buffer::Ring;
 use saturation_protector_buffer::STORAGE;
+use saturation_protector_buffer::is_capacity;
 use units::kinds::Db;
 use units::kinds::Dbfs;
 use units::replies::refusal;
@@ -46,7 +47,7 @@ pub struct Peaks {
 }
 
 // The headroom to start with, how many adjacent speech frames are asked for, how many there are, the
-// headroom that is published, and the two states.
+// headroom that is published, and the two states, whose rings have one capacity.
 #[repr(C)]
 pub struct Protector {
     pub initial: f32,
@@ -77,20 +78,27 @@ fn pick_peaks(b: bool, x: Peaks, y: Peaks) -> Peaks
     if b { x } else { y }
 }
 
-// The first of two rings where b, otherwise the second.
-fn pick_ring(b: bool, x: Ring, y: Ring) -> Ring
-    ensures { λ r. ⌜ r ≡ cond b x y ⌝ }
+// The ring with a peak more where one is due, and as it is otherwise.
+fn pushed_when(due: bool, ring: Ring, peak: f32) -> Ring
+    requires { ⌜ (passesRing ring ≡ true) × (isLevel peak ≡ true) ⌝ }
+    ensures { λ r. ⌜ r ≡ cond due (push ring peak) ring ⌝ }
 {
-    if b { x } else { y }
+    if due {
+        let pushed = ring.push_back(Dbfs(peak));
+        pushed.ring
+    } else {
+        ring
+    }
 }
 
-// Whether every slot of a ring lies from -150 to 50. It looks at each, whatever it finds.
-fn are_levels(stored: [f32; STORAGE]) -> bool
-    ensures { λ r. ⌜ r ≡ allLevels (slots capacity stored) ⌝ }
+// Whether each of the first n slots lies from -150 to 50. It looks at every one of them, whatever it finds.
+fn are_levels(stored: [f32; STORAGE], n: usize) -> bool
+    requires { ⌜ n ≤ largest ⌝ }
+    ensures { λ r. ⌜ r ≡ allLevels (slots n stored) ⌝ }
 {
     let mut ok = true;
     let mut i = 0;
-    while i < CAPACITY {
+    while i < n {
         ok = ok & units::figures::is_level(Dbfs(stored[i]));
         i += 1;
     }
@@ -120,11 +128,13 @@ fn nearer(headroom: f32, difference: f32) -> f32
 }
 
 impl Peaks {
-    // No peak yet, at a headroom.
-    fn starting(headroom: f32) -> Peaks
-        ensures { λ r. ⌜ r ≡ starting headroom ⌝ }
+    // No peak yet, at a headroom, with a ring of this capacity.
+    fn starting(headroom: f32, capacity: u32) -> Peaks
+        requires { ⌜ isCapacity capacity ≡ true ⌝ }
+        ensures { λ r. ⌜ r ≡ starting headroom capacity ⌝ }
     {
-        let ring = Ring::new();
+        let made = Ring::new(capacity);
+        let ring = made.ring;
         Peaks {
             headroom,
             ring,
@@ -137,7 +147,9 @@ impl Peaks {
     fn none() -> Peaks
         ensures { λ r. ⌜ r ≡ none ⌝ }
     {
-        let ring = Ring::new();
+        // A ring that is refused is all 0.
+        let made = Ring::new(0);
+        let ring = made.ring;
         Peaks {
             headroom: 0.0,
             ring,
@@ -146,18 +158,23 @@ impl Peaks {
         }
     }
 
-    // Whether a handed-in state passes: the headroom in its range, a ring that passes, with slots and
-    // largest peak from -150 to 50, and a time from 0 to 400 in tens.
+    // Whether a handed-in state passes: the headroom in its range, a ring that passes, with the slots below its
+    // capacity and the largest peak from -150 to 50, and a time from 0 to 400 in tens.
     fn passes(self) -> bool
         ensures { λ r. ⌜ r ≡ passes self ⌝ }
     {
         let ring = self.ring;
-        let stored = ring.stored;
-        units::figures::is_headroom(Db(self.headroom))
-            & ring.passes()
-            & are_levels(stored)
-            & units::figures::is_level(Dbfs(self.largest))
-            & ((self.elapsed <= LONGEST) & (self.elapsed % FRAME == 0))
+        // What is a level is finite, so the slots are looked at once.
+        if ring.fits() {
+            let stored = ring.stored;
+            let n = ring.capacity as usize;
+            units::figures::is_headroom(Db(self.headroom))
+                & are_levels(stored, n)
+                & units::figures::is_level(Dbfs(self.largest))
+                & ((self.elapsed <= LONGEST) & (self.elapsed % FRAME == 0))
+        } else {
+            false
+        }
     }
 
     // The state without its peaks, at a headroom; the ring's storage stays.
@@ -185,9 +202,7 @@ impl Peaks {
         let larger = floats::larger(self.largest, peak);
         let later = self.elapsed + FRAME;
         let due = LONGEST < later;
-        let pushed = before.push_back(Dbfs(larger));
-        let with = pushed.ring;
-        let ring = pick_ring(due, with, before);
+        let ring = pushed_when(due, before, larger);
         let largest = floats::pick_f32(due, LOWEST, larger);
         let elapsed = floats::pick_u32(due, 0, later);
         let difference = oldest_or(ring, largest) - level;
@@ -202,33 +217,59 @@ impl Peaks {
 }
 
 impl Protector {
-    // A new protector that starts at a headroom. A threshold that is not from 1 to the largest is refused
-    // with 4, and then a headroom that is not above 0 and to 100 with 2.
-    pub fn new(initial: Db, threshold: u32) -> Next
-        ensures { λ r. ⌜ r ≡ made (initial .0) threshold ⌝ }
+    // A new protector that starts at a headroom, and whose rings hold so many peaks. A threshold that is not from 1
+    // to the largest and a capacity that is not from 1 to 16 are refused with 4, and then a headroom that is not
+    // above 0 and to 100 with 2.
+    pub fn new(initial: Db, threshold: u32, capacity: u32) -> Next
+        ensures { λ r. ⌜ r ≡ made (initial .0) threshold capacity ⌝ }
     {
-        let setting = units::settings::is_threshold(threshold);
+        let setting = units::settings::is_threshold(threshold) & is_capacity(capacity);
         let figure = units::figures::is_headroom(Db(initial.0));
         let reply = refusal(true, setting, figure, true);
-        let ok = setting & figure;
-        let headroom = floats::pick_f32(ok, initial.0, 0.0);
-        let preliminary = pick_peaks(ok, Peaks::starting(headroom), Peaks::none());
-        let reliable = pick_peaks(ok, Peaks::starting(headroom), Peaks::none());
-        Next {
-            reply,
-            protector: Protector {
-                initial: headroom,
-                threshold: floats::pick_u32(ok, threshold, 0),
-                count: 0,
-                headroom,
-                preliminary,
-                reliable,
-            },
+        if setting & figure {
+            let protector = Protector::fresh(initial.0, threshold, capacity);
+            Next { reply, protector }
+        } else {
+            let protector = Protector::nothing();
+            Next { reply, protector }
+        }
+    }
+
+    // A protector at the start: no peak yet, and the headroom to start with is published.
+    fn fresh(initial: f32, threshold: u32, capacity: u32) -> Protector
+        requires { ⌜ isCapacity capacity ≡ true ⌝ }
+        ensures { λ r. ⌜ r ≡ fresh initial threshold capacity ⌝ }
+    {
+        let preliminary = Peaks::starting(initial, capacity);
+        let reliable = Peaks::starting(initial, capacity);
+        Protector {
+            initial,
+            threshold,
+            count: 0,
+            headroom: initial,
+            preliminary,
+            reliable,
+        }
+    }
+
+    // All 0: what stands in a protector that was refused.
+    fn nothing() -> Protector
+        ensures { λ r. ⌜ r ≡ nothing ⌝ }
+    {
+        let preliminary = Peaks::none();
+        let reliable = Peaks::none();
+        Protector {
+            initial: 0.0,
+            threshold: 0,
+            count: 0,
+            headroom: 0.0,
+            preliminary,
+            reliable,
         }
     }
 
     // Whether a handed-in state passes: both headrooms and the threshold in their ranges, a run no longer
-    // than the threshold, and two states that pass.
+    // than the threshold, and two states that pass, with rings of one capacity.
     pub fn passes(self) -> bool
         ensures { λ r. ⌜ r ≡ passesProtector self ⌝ }
     {
@@ -240,6 +281,7 @@ impl Protector {
             & units::figures::is_headroom(Db(self.headroom))
             & preliminary.passes()
             & reliable.passes()
+            & (preliminary.ring.capacity == reliable.ring.capacity)
     }
 
     // A refusal: the reply's number, and the protector as it came in.
@@ -278,18 +320,28 @@ impl Protector {
         let trusted = self.reliable;
         let speech = runs::is_speech(probability);
         let turn = runs::step(speech, self.threshold, self.count);
-        let more = before.advanced(peak, level);
-        let back = pick_peaks(turn.throw, trusted, before);
-        let preliminary = pick_peaks(speech, more, back);
-        let reliable = pick_peaks(turn.keep, before, trusted);
-        let headroom = floats::pick_f32(turn.publish, preliminary.headroom, self.headroom);
-        Protector {
-            initial: self.initial,
-            threshold: self.threshold,
-            count: turn.count,
-            headroom,
-            preliminary,
-            reliable,
+        if speech {
+            let preliminary = before.advanced(peak, level);
+            let headroom = floats::pick_f32(turn.publish, preliminary.headroom, self.headroom);
+            Protector {
+                initial: self.initial,
+                threshold: self.threshold,
+                count: turn.count,
+                headroom,
+                preliminary,
+                reliable: trusted,
+            }
+        } else {
+            let preliminary = pick_peaks(turn.throw, trusted, before);
+            let reliable = pick_peaks(turn.keep, before, trusted);
+            Protector {
+                initial: self.initial,
+                threshold: self.threshold,
+                count: turn.count,
+                headroom: self.headroom,
+                preliminary,
+                reliable,
+            }
         }
     }
 

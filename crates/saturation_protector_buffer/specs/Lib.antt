@@ -1,4 +1,4 @@
--- The ring of peaks: what it is over any size, what each call answers, and what is proved of it.
+-- The ring of peaks: what it is over any capacity, what each call answers, and what is proved of it.
 pub mod Rings
 pub mod Ring
 pub mod Calls

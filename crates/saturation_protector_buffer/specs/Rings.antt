@@ -3,7 +3,7 @@
 use mathlib.Core.Bool.{Bool, true, false, _&&_, cond}
 use mathlib.Core.List.{List, [], _∷_, _++_}
 use Prim.Native.Nat.{ℕ, _+_, _-_}
-use lib.Dec.{leb, ltb, eqb}
+use lib.Dec.{ltb, eqb}
 use lib.ListN.{length, take, drop}
 use lib.Ieee.{Float, eq}
 use lib.Ieee.Scale.{finite}
@@ -16,11 +16,6 @@ slots n stored = take n stored
 unfoldable pub allFinite : List Float → Bool
 allFinite [] = true
 allFinite (x ∷ xs) = finite x && allFinite xs
-
--- "ring place 0 to 3, size 0 to 4, stored items finite": below n, to n, and every slot of the ring, also one that holds no item now
-unfoldable pub fitsRing : ℕ → List Float → ℕ → ℕ → Bool
-unfolding allFinite
-fitsRing n stored place size = ltb place n && leb size n && allFinite (slots n stored)
 
 -- the place after this one, round the ring
 unfoldable pub after : ℕ → ℕ → ℕ

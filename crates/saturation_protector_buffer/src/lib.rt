@@ -1,26 +1,31 @@
 // A ring of recent peaks: a push into a full ring replaces the oldest. The Rust's
-// saturation_protector_buffer.
+// saturation_protector_buffer, with its size a field of the ring.
 
 ghost use mathlib.Core.Path.{_≡_};
 ghost use Prim.Native.Nat.{_<_, _≤_};
 ghost use Rattle.saturation_protector_buffer.specs.Rings.{slots, allFinite, start, sameItems};
-ghost use Rattle.saturation_protector_buffer.specs.Ring.{capacity, empty, passes, push, items, said};
-ghost use Rattle.saturation_protector_buffer.specs.Calls.{pushed, told, oldest, fronted, sized, forgotten, compared};
+ghost use Rattle.saturation_protector_buffer.specs.Ring.{largest, usual, isCapacity, fits, passes, push, items, said};
+ghost use Rattle.saturation_protector_buffer.specs.Calls.{made, pushed, told, oldest, fronted, sized, held, forgotten, compared};
 ghost use Rattle.saturation_protector_buffer.specs.Steps.{Within, round};
 use units::kinds::Dbfs;
 use units::replies::refusal;
 
-// How many peaks the ring holds.
-pub const CAPACITY: usize = 4;
+// How many slots the storage of a ring has: one for each peak of the largest ring.
+pub const STORAGE: usize = 16;
 
-// How many slots its storage has: one for each peak.
-pub const STORAGE: usize = CAPACITY;
+// The capacity of the largest ring.
+const LARGEST: u32 = 16;
 
-// The storage, the place where the next peak goes (the Rust's `next`) and how many peaks there are. Both are
-// numbers of 32 bits, so that a struct that holds a ring has no hole beside it in C's layout.
+// The capacity of a ring where none is asked for.
+const USUAL: u32 = 4;
+
+// The storage, how many peaks the ring can hold, the place where the next peak goes (the Rust's `next`) and how
+// many peaks there are. All three are numbers of 32 bits, so that a struct that holds a ring has no hole beside it
+// in C's layout.
 #[repr(C)]
 pub struct Ring {
     pub stored: [f32; STORAGE],
+    pub capacity: u32,
     pub place: u32,
     pub size: u32,
 }
@@ -31,7 +36,8 @@ pub enum Front {
     Oldest(Dbfs),
 }
 
-// A reply's number, and the ring that goes on from there: the one that came in where it is refused.
+// A reply's number, and the ring that goes on from there: the one that came in where it is refused, and all 0 where
+// it is a new one.
 pub struct Next {
     pub reply: u32,
     pub ring: Ring,
@@ -49,37 +55,68 @@ pub struct Counted {
     pub size: usize,
 }
 
+// A reply's number, and how many peaks the ring can hold: 0 where it is refused.
+pub struct Held {
+    pub reply: u32,
+    pub capacity: u32,
+}
+
 // A reply's number, and whether two rings hold the same peaks: not, where it is refused.
 pub struct Compared {
     pub reply: u32,
     pub equal: bool,
 }
 
-// How many peaks a ring can hold.
-pub fn capacity() -> usize
-    ensures { λ r. ⌜ r ≡ capacity ⌝ }
+// The capacity of a ring where none is asked for.
+pub fn usual_capacity() -> u32
+    ensures { λ r. ⌜ r ≡ usual ⌝ }
 {
-    CAPACITY
+    USUAL
+}
+
+// Whether a ring can have this capacity: 1 to 16.
+pub fn is_capacity(n: u32) -> bool
+    ensures { λ r. ⌜ r ≡ isCapacity n ⌝ }
+{
+    (1 <= n) & (n <= LARGEST)
 }
 
 impl Ring {
-    // An empty ring.
-    pub fn new() -> Ring
-        ensures { λ r. ⌜ r ≡ empty ⌝ }
+    // An empty ring that can hold so many peaks. A capacity that is not from 1 to 16 is refused with 4.
+    pub fn new(capacity: u32) -> Next
+        ensures { λ r. ⌜ r ≡ made capacity ⌝ }
     {
-        Ring {
-            stored: [0.0; STORAGE],
-            place: 0,
-            size: 0,
+        let ok = is_capacity(capacity);
+        Next {
+            reply: refusal(true, ok, true, true),
+            ring: Ring {
+                stored: [0.0; STORAGE],
+                capacity: floats::pick_u32(ok, capacity, 0),
+                place: 0,
+                size: 0,
+            },
         }
     }
 
-    // Whether a handed-in ring passes: a place below its capacity, a size up to it, and every slot finite.
+    // Whether a ring's numbers fit each other: a capacity from 1 to 16, a place below it and a size up to it. What is
+    // stored is not looked at.
+    pub fn fits(self) -> bool
+        ensures { λ r. ⌜ r ≡ fits self ⌝ }
+    {
+        let n = self.capacity;
+        is_capacity(n) & (self.place < n) & (self.size <= n)
+    }
+
+    // Whether a handed-in ring passes: its numbers fit each other, and every slot below its capacity is finite.
     pub fn passes(self) -> bool
         ensures { λ r. ⌜ r ≡ passes self ⌝ }
     {
-        let stored = self.stored;
-        ((self.place as usize) < CAPACITY) & (self.size as usize <= CAPACITY) & are_finite(stored)
+        if self.fits() {
+            let stored = self.stored;
+            are_finite(stored, self.capacity as usize)
+        } else {
+            false
+        }
     }
 
     // The ring with one peak more, at the cost of the oldest where it is full. A peak that is not
@@ -102,18 +139,20 @@ impl Ring {
     // The Rust's push_back: the peak stored at the place, the place after it round the ring, and one
     // peak more, up to the ring's capacity.
     fn store(self, v: f32) -> Ring
-        requires { ⌜ Within capacity self ⌝ }
+        requires { ⌜ Within self ⌝ }
         ensures { λ r. ⌜ r ≡ push self v ⌝ }
     {
         let mut stored = self.stored;
+        let capacity = self.capacity;
         let place = self.place as usize;
         let size = self.size;
         stored[place] = v;
         let after = self.place + 1;
-        let next = floats::pick_u32(after as usize == CAPACITY, 0, after);
-        let more = floats::pick_u32((size as usize) < CAPACITY, size + 1, size);
+        let next = floats::pick_u32(after == capacity, 0, after);
+        let more = floats::pick_u32(size < capacity, size + 1, size);
         Ring {
             stored,
+            capacity,
             place: next,
             size: more,
         }
@@ -138,7 +177,7 @@ impl Ring {
 
     // The Rust's front: none where there is no peak, otherwise what is stored at the front index.
     fn oldest(self) -> Front
-        requires { ⌜ Within capacity self ⌝ }
+        requires { ⌜ Within self ⌝ }
         ensures { λ r. ⌜ said r ≡ oldest (items self) ⌝ }
     {
         let stored = self.stored;
@@ -154,9 +193,9 @@ impl Ring {
     // Where the oldest peak is stored: at the place of the next one where the ring is full, and
     // otherwise at 0.
     fn front_index(self) -> usize
-        ensures { λ r. ⌜ r ≡ start capacity (self .place) (self .size) ⌝ }
+        ensures { λ r. ⌜ r ≡ start (self .capacity) (self .place) (self .size) ⌝ }
     {
-        floats::pick_usize(self.size as usize == CAPACITY, self.place as usize, 0)
+        floats::pick_usize(self.size == self.capacity, self.place as usize, 0)
     }
 
     // How many peaks there are. A ring that fails its test is refused with 4.
@@ -170,26 +209,39 @@ impl Ring {
         }
     }
 
+    // How many peaks the ring can hold. A ring that fails its test is refused with 4.
+    pub fn capacity(self) -> Held
+        ensures { λ r. ⌜ r ≡ held self ⌝ }
+    {
+        let ok = self.passes();
+        Held {
+            reply: refusal(true, ok, true, true),
+            capacity: floats::pick_u32(ok, self.capacity, 0),
+        }
+    }
+
     // The ring without its peaks, but with its storage as it is. A ring that fails its test is
     // refused with 4.
     pub fn reset(self) -> Next
         ensures { λ r. ⌜ r ≡ forgotten self ⌝ }
     {
         let stored = self.stored;
+        let capacity = self.capacity;
         let ok = self.passes();
         let reply = refusal(true, ok, true, true);
         let place = floats::pick_u32(ok, 0, self.place);
         let size = floats::pick_u32(ok, 0, self.size);
         let ring = Ring {
             stored,
+            capacity,
             place,
             size,
         };
         Next { reply, ring }
     }
 
-    // Whether the two hold the same peaks, oldest first, by the float's own equality. Where either
-    // ring fails its test it is refused with 4.
+    // Whether the two hold the same peaks, oldest first, by the float's own equality, whatever their capacities.
+    // Where either ring fails its test it is refused with 4.
     pub fn equals(self, other: Ring) -> Compared
         ensures { λ r. ⌜ r ≡ compared self other ⌝ }
     {
@@ -209,13 +261,14 @@ impl Ring {
     }
 }
 
-// Whether every slot of the ring is finite. It looks at each slot, whatever it finds.
-fn are_finite(stored: [f32; STORAGE]) -> bool
-    ensures { λ r. ⌜ r ≡ allFinite (slots capacity stored) ⌝ }
+// Whether each of the first n slots is finite. It looks at every one of them, whatever it finds.
+fn are_finite(stored: [f32; STORAGE], n: usize) -> bool
+    requires { ⌜ n ≤ largest ⌝ }
+    ensures { λ r. ⌜ r ≡ allFinite (slots n stored) ⌝ }
 {
     let mut ok = true;
     let mut i = 0;
-    while i < CAPACITY {
+    while i < n {
         ok = ok & floats::is_finite(stored[i]);
         i += 1;
     }
@@ -224,30 +277,40 @@ fn are_finite(stored: [f32; STORAGE]) -> bool
 
 // The Rust's eq: as many peaks, and each equal to the other's, oldest first.
 fn same_items(a: Ring, b: Ring) -> bool
-    requires { ⌜ Within capacity a × Within capacity b ⌝ }
+    requires { ⌜ Within a × Within b ⌝ }
     ensures { λ r. ⌜ r ≡ sameItems (items a) (items b) ⌝ }
 {
     let xs = a.stored;
     let ys = b.stored;
+    let n = a.capacity as usize;
+    let m = b.capacity as usize;
     let from = a.front_index();
     let other = b.front_index();
-    let size = a.size as usize;
-    if size == b.size as usize {
-        same_from(xs, from, ys, other, size)
+    let size = a.size;
+    if size == b.size {
+        same_from(xs, n, from, ys, m, other, size as usize)
     } else {
         false
     }
 }
 
-// Whether two storages agree on as many slots, each counted round the ring from where it starts.
-fn same_from(xs: [f32; STORAGE], from: usize, ys: [f32; STORAGE], other: usize, size: usize) -> bool
-    requires { ⌜ (from < capacity) × (other < capacity) × (size ≤ capacity) ⌝ }
-    ensures { λ r. ⌜ r ≡ sameItems (round capacity xs from size) (round capacity ys other size) ⌝ }
+// Whether two storages agree on as many slots, each counted round its ring of n or m from where it starts.
+fn same_from(
+    xs: [f32; STORAGE],
+    n: usize,
+    from: usize,
+    ys: [f32; STORAGE],
+    m: usize,
+    other: usize,
+    size: usize,
+) -> bool
+    requires { ⌜ (from < n) × (n ≤ largest) × (other < m) × (m ≤ largest) × (size ≤ n) × (size ≤ m) ⌝ }
+    ensures { λ r. ⌜ r ≡ sameItems (round n xs from size) (round m ys other size) ⌝ }
 {
     let mut same = true;
     let mut i = 0;
     while i < size {
-        same = same & (xs[(from + i) % CAPACITY] == ys[(other + i) % CAPACITY]);
+        same = same & (xs[(from + i) % n] == ys[(other + i) % m]);
         i += 1;
     }
     same

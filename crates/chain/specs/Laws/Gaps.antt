@@ -33,7 +33,7 @@ level-gap : (c : Chain) → Level.passes (c .estimator) ≡ true → Levels.gap 
 unfolding Levels.gap
 level-gap c h = rw h
 
-headroom-gap : (c : Chain) → Headroom.passes (c .protector) ≡ true → Headrooms.gap (c .protector) ≡ record { reply = done; protector = Headroom.interrupted (c .protector) }
+pub headroom-gap : (c : Chain) → Headroom.passes (c .protector) ≡ true → Headrooms.gap (c .protector) ≡ record { reply = done; protector = Headroom.interrupted (c .protector) }
 unfolding Headrooms.gap
 headroom-gap c h = rw h
 

@@ -59,5 +59,5 @@ pub gap-one : (c : Chain) (g h : Gapped) → g ≡ gap c → h ≡ gap c → g �
 gap-one c g h p q = one-outcome g h p q
 
 -- and that of `new`.
-pub made-one : (s : Set) (t samples : ℕ) (m n : Made) → m ≡ made s t samples → n ≡ made s t samples → m ≡ n
-made-one s t samples m n p q = one-outcome m n p q
+pub made-one : (s : Set) (t samples capacity : ℕ) (m n : Made) → m ≡ made s t samples capacity → n ≡ made s t samples capacity → m ≡ n
+made-one s t samples capacity m n p q = one-outcome m n p q

@@ -43,9 +43,9 @@ pub record Good (t k : ℕ) (c : Chain) : Type 0 where
   pub waiting : c .controller .waiting ≡ t - held t k
 
 -- ---- a new chain
-pub new-good : (s : Settings) (t samples : ℕ) → 0 < t → Good t 0 (fresh s t samples)
+pub new-good : (s : Settings) (t samples capacity : ℕ) → 0 < t → Good t 0 (fresh s t samples capacity)
 unfolding fresh Level.fresh Headroom.fresh Gain.fresh
-new-good s t samples some =
+new-good s t samples capacity some =
     record {
       ground =
           record {

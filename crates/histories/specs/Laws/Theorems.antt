@@ -1,5 +1,6 @@
--- The theorems on histories of frames and gaps, refused calls included: demand 3 for every new chain, what a gap does, and full scale for every chain that
--- passes. That the numbers of the events are f32 is all that is asked of them. The promises of the chain's step and gap join the theorems to the code.
+-- The theorems on histories of frames and gaps, refused calls included: demand 3 for every new chain, whatever the capacity of its rings, that no call
+-- changes that capacity, what a gap does, and full scale for every chain that passes. That the numbers of the events are f32 is all that is asked of them. The
+-- promises of the chain's step and gap join the theorems to the code.
 -- Assumes nothing.
 use mathlib.Core.Path.{_≡_, refl, sym, ap, subst, _∙_}
 use mathlib.Core.Bool.{Bool, true, false, _&&_, cond, false≢true}
@@ -20,10 +21,11 @@ use Rattle.speech_level_estimator.specs.Estimator.{startingLevel}
 use Rattle.speech_level_estimator.specs.Laws.Level.{starting-level-in, wider}
 use Rattle.adaptive_digital_gain_controller.specs.Range.{HeldSettings}
 use Rattle.limiter.specs.Scale.{FullScale}
-use Rattle.chain.specs.Chain.{published}
+use Rattle.saturation_protector_buffer.specs.Ring.{isCapacity}
+use Rattle.chain.specs.Chain.{published, capacitiesOf}
 use Rattle.chain.specs.Calls.{made, fresh}
 use Rattle.chain.specs.declared.Chain.{Chain}
-use Rattle.chain.specs.Laws.Start.{made-fresh, made-ready, made-samples}
+use Rattle.chain.specs.Laws.Start.{made-fresh, made-ready, made-samples, made-capacities}
 use Rattle.histories.specs.Histories.{Event, gap, isSpeech, takes, next, after, onlyTaken, Out, out, outputs, outputsTaken}
 use Rattle.histories.specs.Held.{HeldEvent, ReadyAt}
 use Rattle.histories.specs.Changes.{ahead, ends, inShort, Changed, States}
@@ -37,6 +39,7 @@ use Rattle.histories.specs.Laws.Weighted.{level-after}
 use Rattle.histories.specs.Laws.Start.{level-starting, at-most-minus-twenty}
 use Rattle.histories.specs.Laws.Confidence.{Sure, new-sure, sure-after}
 use Rattle.histories.specs.Laws.Gaps.{gap-alike, gap-publishes}
+use Rattle.histories.specs.Laws.Capacity.{after-capacities}
 use Rattle.histories.specs.Laws.Longest.{none-counted, longest-parted, only-parted}
 
 -- ---- refused calls
@@ -69,17 +72,17 @@ only-held n (e ∷ es) h = go (takes n e) (only-held n es (h .1))
     go true rest = (h .0, rest)
     go false rest = rest
 
--- ---- demand 3
-module _ (s : Set) (t n : ℕ) (held : HeldSettings s) (new : made s t n .reply ≡ done) where
+-- ---- demand 3, of a chain that is new and was not refused, with rings of any capacity
+module _ (s : Set) (t n capacity : ℕ) (held : HeldSettings s) (new : made s t n capacity .reply ≡ done) where
   abbrev chain : Chain
-  chain = made s t n .chain
+  chain = made s t n capacity .chain
 
   chain-ready : ReadyAt n chain
-  chain-ready = record { ready = made-ready s t n held new; samples = made-samples s t n held new }
+  chain-ready = record { ready = made-ready s t n capacity held new; samples = made-samples s t n capacity held new }
 
   module _ (two : 1 < t) where
     chain-good : Good t 0 chain
-    chain-good = subst (Good t 0) (sym (made-fresh s t n held new)) (new-good s t n (omega (arith, two)))
+    chain-good = subst (Good t 0) (sym (made-fresh s t n capacity held new)) (new-good s t n capacity (omega (arith, two)))
 
     module _ (es ds : List Event) (first : Each HeldEvent es) (second : Each HeldEvent ds) where
       both : (changed : Changed n t 0 es ds) → (outputs chain es ≡ outputs chain ds) × States false chain chain changed
@@ -111,7 +114,7 @@ module _ (s : Set) (t n : ℕ) (held : HeldSettings s) (new : made s t n .reply 
   settings-taken : (Settings.accepted s ≡ true) × (Settings.threshold t ≡ true)
   unfolding made
   settings-taken =
-      let p = each-of (_ ∷ _ ∷ []) (none-refused (isSamples n) (Settings.accepted s && Settings.threshold t) true true new .1) in
+      let p = each-of (_ ∷ _ ∷ _ ∷ []) (none-refused (isSamples n) (Settings.accepted s && Settings.threshold t && isCapacity capacity) true true new .1) in
       (p 0, p 1)
 
   start-level : Level.level (Level.starting (startingLevel s)) ≡ startingLevel s
@@ -124,13 +127,19 @@ module _ (s : Set) (t n : ℕ) (held : HeldSettings s) (new : made s t n .reply 
   -- reached the threshold; then the current run's, once it has reached it; clamped to -90 and 30." Also for a threshold of 1.
   pub published-average : (es : List Event) → Each HeldEvent es → published (after chain es) .level .0 ≡ averageLevel s t (onlyTaken n es)
   published-average es numbers =
-      ap (λ (c : Chain). after c es .estimator .level) (made-fresh s t n held new)
-      ∙ level-after n t s n es (leb-true 1 t (each-of (_ ∷ _ ∷ []) (settings-taken .1) 0)) start-level (subst (ReadyAt n) (made-fresh s t n held new) chain-ready) numbers
+      ap (λ (c : Chain). after c es .estimator .level) (made-fresh s t n capacity held new)
+      ∙ level-after n t s n capacity es (leb-true 1 t (each-of (_ ∷ _ ∷ []) (settings-taken .1) 0)) start-level (subst (ReadyAt n) (made-fresh s t n capacity held new) chain-ready) numbers
+
+  -- ---- the rings
+  -- Both rings have the capacity that was asked for, and "no accepted call changes it"; no refused one does either. So it is after any history, and
+  -- nothing is asked of its events.
+  pub capacities-kept : (es : List Event) → capacitiesOf (after chain es) ≡ (capacity, capacity)
+  capacities-kept es = after-capacities chain es ∙ made-capacities s t n capacity held new
 
   -- ---- gaps
   chain-sure : Sure (chain .estimator)
   unfolding fresh
-  chain-sure = rw (made-fresh s t n held new) (new-sure s t (startingLevel s))
+  chain-sure = rw (made-fresh s t n capacity held new) (new-sure s t (startingLevel s))
 
   -- A gap "moves no gain", and no other published figure: after any history level, headroom, gain and confidence are as they were before it. Also for a
   -- threshold of 1.

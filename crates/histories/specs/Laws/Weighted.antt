@@ -112,13 +112,13 @@ module _ (n t : ℕ) where
       go false taken later rest = ap (λ (z : Chain). shownLevel (after z es .estimator)) (next-refused n c r e taken) ∙ rest
 
   -- From a new chain, whose level is that of its starting average, it is the weighted average.
-  pub level-after : (s : Settings) (samples : ℕ) (es : List Event) → 1 ≤ t → Level.level (Level.starting (Estimators.startingLevel s)) ≡ Estimators.startingLevel s
-      → ReadyAt n (fresh s t samples) → Each HeldEvent es → after (fresh s t samples) es .estimator .level ≡ averageLevel s t (onlyTaken n es)
+  pub level-after : (s : Settings) (samples capacity : ℕ) (es : List Event) → 1 ≤ t → Level.level (Level.starting (Estimators.startingLevel s)) ≡ Estimators.startingLevel s
+      → ReadyAt n (fresh s t samples capacity) → Each HeldEvent es → after (fresh s t samples capacity) es .estimator .level ≡ averageLevel s t (onlyTaken n es)
   unfolding fresh Estimators.fresh averageLevel
-  level-after s samples es one start r held =
+  level-after s samples capacity es one start r held =
       let first = Level.starting (Estimators.startingLevel s) in
       let fs = map frameOf (onlyTaken n es) in
-      ap (λ (z : Shown Average Float). z .value) (shown-after (fresh s t samples) es refl r held)
+      ap (λ (z : Shown Average Float). z .value) (shown-after (fresh s t samples capacity) es refl r held)
       ∙ ap (λ (z : Float). shownAfter Level.level t (record { run = record { preliminary = first; reliable = first; count = 0 }; value = z }) fs .value) (sym start)
       ∙ published-after Level.level t first fs one
       ∙ ap (λ (z : List (Frame Average)). Level.level (advancedBy first z)) (counting-map frameOf t isSpeech (λ (f : Frame Average). f .speech) frame-speech [] (onlyTaken n es))

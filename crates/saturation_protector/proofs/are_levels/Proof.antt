@@ -11,25 +11,25 @@ use lib.Seq.{length-take-le, getD-take}
 use borrow.Author.Needs.{needs}
 use Rattle.lists.specs.Loops.{scan, scan-done}
 use Rattle.saturation_protector_buffer.specs.Rings.{slots}
-use Rattle.saturation_protector_buffer.specs.Ring.{capacity, storage}
+use Rattle.saturation_protector_buffer.specs.Ring.{largest}
 use Rattle.saturation_protector.specs.Peaks.{allLevels}
 use Rattle.saturation_protector.proofs.are_levels.Statement.{statement}
 use Rattle.saturation_protector.proofs.are_levels.Tie as tie
 
 abbrev Inv-loop : tie.InvT-loop
-Inv-loop stored ok₀ i₀ ok i = (i ≤ capacity) × (ok && allLevels (drop i (slots capacity stored)) ≡ allLevels (slots capacity stored))
+Inv-loop n stored ok₀ i₀ ok i = (i ≤ n) × (ok && allLevels (drop i (slots n stored)) ≡ allLevels (slots n stored))
 
 abbrev μ-loop : tie.MeasureT-loop
-μ-loop stored ok₀ i₀ ok i = capacity - i
+μ-loop n stored ok₀ i₀ ok i = n - i
 
 loop-holds : tie.Need-loop-holds Inv-loop μ-loop
 loop-holds c = search needs
 
-mul-t6 : tie.Need-mul-t6 Inv-loop μ-loop
-mul-t6 c = search needs
+mul-t7 : tie.Need-mul-t7 Inv-loop μ-loop
+mul-t7 c = search needs
 
-array-read-t9 : tie.Need-array-read-t9 Inv-loop μ-loop
-array-read-t9 c = search needs
+array-read-t10 : tie.Need-array-read-t10 Inv-loop μ-loop
+array-read-t10 c = search needs
 
 is-level-requires : tie.Need-is-level-requires Inv-loop μ-loop
 is-level-requires c κs = search needs
@@ -44,14 +44,15 @@ loop-again : tie.Need-loop-again Inv-loop μ-loop
 unfolding allLevels
 loop-again c =
     let stored = c .before .before .before .args .t1 in
+    let n = c .before .before .before .args .n in
     let loop = c .before .before .loop in
     let ok = loop .ok in
     let r = c .is-level .result in
-    let long : length stored ≡ storage = search needs in
-    let whole : length (slots capacity stored) ≡ capacity = length-take-le capacity stored (omega arith) in (
+    let long : length stored ≡ largest = search needs in
+    let whole : length (slots n stored) ≡ n = length-take-le n stored (omega arith) in (
       omega arith,
-      scan (λ (ys : List Float). ok && allLevels ys) (λ (ys : List Float). ok && r && allLevels ys) (slots capacity stored) (loop .i) nan (omega arith)
-          (rw (c .is-level .ensures, getD-take capacity stored (loop .i) nan (omega arith)) (sym (and-assoc ok _ _)))
+      scan (λ (ys : List Float). ok && allLevels ys) (λ (ys : List Float). ok && r && allLevels ys) (slots n stored) (loop .i) nan (omega arith)
+          (rw (c .is-level .ensures, getD-take n stored (loop .i) nan (omega arith)) (sym (and-assoc ok _ _)))
           ∙ loop .inv .1,
     )
 
@@ -59,10 +60,11 @@ returns : tie.Need-returns Inv-loop μ-loop
 unfolding allLevels
 returns c =
     let stored = c .before .before .args .t1 in
+    let n = c .before .before .args .n in
     let loop = c .before .loop in
-    let long : length stored ≡ storage = search needs in
-    let whole : length (slots capacity stored) ≡ capacity = length-take-le capacity stored (omega arith) in
-    sym (and-true (loop .ok)) ∙ sym (scan-done (λ (ys : List Float). loop .ok && allLevels ys) (slots capacity stored) (loop .i) (omega arith)) ∙ loop .inv .1
+    let long : length stored ≡ largest = search needs in
+    let whole : length (slots n stored) ≡ n = length-take-le n stored (omega arith) in
+    sym (and-true (loop .ok)) ∙ sym (scan-done (λ (ys : List Float). loop .ok && allLevels ys) (slots n stored) (loop .i) (omega arith)) ∙ loop .inv .1
 
 pub are-levels-spec : {M : Type 1} → statement M
 are-levels-spec =
@@ -71,8 +73,8 @@ are-levels-spec =
     Inv-loop
     μ-loop
     loop-holds
-    mul-t6
-    array-read-t9
+    mul-t7
+    array-read-t10
     is-level-requires
     add-i
     loop-less

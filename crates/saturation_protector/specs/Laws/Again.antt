@@ -1,7 +1,7 @@
 -- "Every state from a new or accepted call passes": of each call, and the headroom that is told lies in its range. Laws.
 -- Assumes nothing.
 use mathlib.Core.Path.{_≡_, refl}
-use mathlib.Core.Bool.{Bool, true, false, cond}
+use mathlib.Core.Bool.{Bool, true, false, _&&_, cond}
 use mathlib.Core.List.{[], _∷_}
 use Prim.Native.Nat.{ℕ, _≤_}
 use native.Mathlib.Omega.{arith}
@@ -13,6 +13,8 @@ use Rattle.units.specs.Replies.{done}
 use Rattle.units.specs.Laws.Replies.{none-refused}
 use Rattle.runs.specs.Runs.{speech, longer, turned}
 use Rattle.runs.specs.Laws.Counts.{longer-most}
+use Rattle.saturation_protector_buffer.specs.Ring as Ring
+use Rattle.saturation_protector_buffer.specs.Ring.{isCapacity}
 use Rattle.saturation_protector.specs.Peaks as Peaks
 use Rattle.saturation_protector.specs.Protector.{passes, fresh, again, analyzed}
 use Rattle.saturation_protector.specs.Calls.{made, figures, stepped, reset, told}
@@ -21,18 +23,20 @@ use Rattle.saturation_protector.specs.declared.Protector.{Protector}
 use Rattle.saturation_protector.specs.Laws.Tests.{passed, passed-whole, passing-whole}
 use Rattle.saturation_protector.specs.Laws.Frames.{preliminaryOf, turnedTo, analyzed-turned}
 use Rattle.saturation_protector.specs.Laws.Passing.{starting-passes, restarted-passes, advanced-passes}
+use Rattle.saturation_protector.specs.Laws.Capacity.{turned-alike}
 
 -- ---- the steps
 -- A protector at the start passes.
-pub fresh-passes : (initial : Float) (t : ℕ) → headroom initial ≡ true → threshold t ≡ true → passes (fresh initial t) ≡ true
+pub fresh-passes : (initial : Float) (t n : ℕ) → headroom initial ≡ true → threshold t ≡ true → isCapacity n ≡ true → passes (fresh initial t n) ≡ true
 unfolding fresh
-fresh-passes initial t h k =
-    let start = starting-passes initial h in
-    passing-whole (fresh initial t) (record { initial = h; threshold = k; count = omega arith; headroom = h; preliminary = start; reliable = start })
+fresh-passes initial t n h k c =
+    let start = starting-passes initial n h c in
+    passing-whole (fresh initial t n)
+    (record { initial = h; threshold = k; count = omega arith; headroom = h; preliminary = start; reliable = start; alike = refl })
 
 -- A protector that passes does so after a reset.
 pub again-passes : (s : Protector) → passes s ≡ true → passes (again s) ≡ true
-unfolding again
+unfolding again Peaks.restarted Ring.reset
 again-passes s h =
     let p = passed-whole s h in
     passing-whole (again s)
@@ -43,6 +47,7 @@ again-passes s h =
       headroom = p .initial;
       preliminary = restarted-passes (s .initial) (s .preliminary) (p .initial) (p .preliminary);
       reliable = restarted-passes (s .initial) (s .reliable) (p .initial) (p .reliable);
+      alike = p .alike;
     })
 
 either-state : (b : Bool) (x y : State) → Peaks.passes x ≡ true → Peaks.passes y ≡ true → Peaks.passes (cond b x y) ≡ true
@@ -80,15 +85,17 @@ analyzed-passes s p peak speechLevel h k l =
           (passed (preliminaryOf b peak speechLevel s) preliminary .headroom) (was .headroom);
       preliminary = preliminary;
       reliable = either-state (turn .keep) (s .preliminary) (s .reliable) (was .preliminary) (was .reliable);
+      alike = turned-alike s b peak speechLevel h;
     }))
 
 -- ---- the calls: where the reply is 0, the state that comes out passes
 -- A new protector that is not refused passes.
-pub made-passes : (initial : Float) (t : ℕ) → made initial t .reply ≡ done → passes (made initial t .protector) ≡ true
+pub made-passes : (initial : Float) (t n : ℕ) → made initial t n .reply ≡ done → passes (made initial t n .protector) ≡ true
 unfolding made
-made-passes initial t h =
-    let k = none-refused true (threshold t) (headroom initial) true h in
-    rw (k .1, k .2) (fresh-passes initial t (k .2) (k .1))
+made-passes initial t n h =
+    let k = none-refused true (threshold t && isCapacity n) (headroom initial) true h in
+    let both = each-of (threshold t ∷ isCapacity n ∷ []) (k .1) in
+    rw (k .1, k .2) (fresh-passes initial t n (k .2) (both 0) (both 1))
 
 -- An accepted frame is one of figures in their ranges, of a protector that passes.
 pub accepted : (s : Protector) (p peak speechLevel : Float) → stepped s p peak speechLevel .reply ≡ done

@@ -1,6 +1,6 @@
 -- A frame by what `runs` tells the code of it. A law.
 -- Assumes nothing.
-use mathlib.Core.Path.{_≡_, refl}
+use mathlib.Core.Path.{_≡_, refl, ap, _∙_}
 use mathlib.Core.Bool.{Bool, true, false, cond}
 use lib.Ieee.{Float}
 use Rattle.runs.specs.Runs.{speech, framed, advanced, closed, published, turned}
@@ -46,3 +46,7 @@ analyzed-turned s p peak level = go (speech p)
         (turnedTo b peak level s)
     go true = refl
     go false = refl
+
+-- So of speech, and of what is none.
+pub analyzed-as : (s : Protector) (p peak level : Float) (b : Bool) → speech p ≡ b → analyzed s p peak level ≡ turnedTo b peak level s
+analyzed-as s p peak level b e = analyzed-turned s p peak level ∙ ap (λ (x : Bool). turnedTo x peak level s) e

@@ -6,8 +6,9 @@ use lib.Ieee.{Float, binary32, ofBits, le, lt, eq}
 use Rattle.units.specs.Replies.{done, refusal}
 use Rattle.runs.specs.Runs.{speech, framed, published}
 use Rattle.saturation_protector.specs.Calls.{figures, stepped, gap}
-use Rattle.saturation_protector.specs.Protector.{passes, analyzed, interrupted}
+use Rattle.saturation_protector.specs.Protector.{capacities, passes, analyzed, interrupted}
 use Rattle.saturation_protector.specs.Laws.Again.{stepped-passes}
+use Rattle.saturation_protector.specs.Laws.Capacity.{stepped-capacities}
 use Rattle.saturation_protector.specs.declared.Next.{Next}
 use Rattle.saturation_protector.specs.declared.Protector.{Protector}
 
@@ -40,3 +41,7 @@ as-quiet s = gap-is-quiet s zero zero zero refl refl
 -- A protector that passes, passes after a gap.
 pub gap-passes : (s : Protector) → gap s .reply ≡ done → passes (gap s .protector) ≡ true
 gap-passes s h = rw (as-quiet s) (stepped-passes s zero zero zero (ap (λ (n : Next). n .reply) (sym (as-quiet s)) ∙ h))
+
+-- A gap leaves the capacity of both rings.
+pub gap-capacities : (s : Protector) → capacities (gap s .protector) ≡ capacities s
+gap-capacities s = ap (λ (n : Next). capacities (n .protector)) (as-quiet s) ∙ stepped-capacities s zero zero zero

@@ -1,22 +1,21 @@
--- What a ring of any size n tells of its front is the oldest item, or that there is none. Laws.
+-- What a ring tells of its front is the oldest item, or that there is none. Laws.
 -- Assumes nothing.
 use mathlib.Core.Path.{_≡_, refl, ap, _∙_}
 use mathlib.Core.Bool.{true}
 use mathlib.Core.List.{List, [], _∷_}
-use Prim.Native.Nat.{ℕ}
 use native.Mathlib.Omega.{arith}
 use lib.ListN.{getD}
 use lib.Ieee.{Float}
-use Rattle.saturation_protector_buffer.specs.Ring.{Said, passesOf, itemsOf, said}
-use Rattle.saturation_protector_buffer.specs.Calls.{Told, told, oldest, frontedOf}
+use Rattle.saturation_protector_buffer.specs.Ring.{Said, passes, items, said}
+use Rattle.saturation_protector_buffer.specs.Calls.{Told, told, oldest, fronted}
 use Rattle.saturation_protector_buffer.specs.declared.Ring.{Ring}
 use Rattle.saturation_protector_buffer.specs.declared.Found.{Found}
 use Rattle.saturation_protector.specs.Peaks.{oldestOr}
 
 -- A ring that passes is not refused: its front is the first of its items.
-pub front-told : (n : ℕ) (r : Ring) (f : Found) → passesOf n r ≡ true → told f ≡ frontedOf n r → said (f .front) ≡ oldest (itemsOf n r)
-unfolding told frontedOf
-front-told n r f h e = ap (λ (t : Told). t .front) e ∙ rw h refl
+pub front-told : (r : Ring) (f : Found) → passes r ≡ true → told f ≡ fronted r → said (f .front) ≡ oldest (items r)
+unfolding told fronted
+front-told r f h e = ap (λ (t : Told). t .front) e ∙ rw h refl
 
 -- Where there is no oldest, the other value stands for it.
 pub none-oldest : (xs : List Float) (other : Float) → oldest xs ≡ record { number = 0; values = [] } → oldestOr xs other ≡ other

@@ -13,6 +13,6 @@ abbrev pub Once {ℓ} : {A : Type ℓ} → A → Type ℓ
 Once {A} d = (r s : A) → r ≡ d → s ≡ d → r ≡ s
 
 -- Any two outcomes of new, passes, analyze, gap, reset and headroom_db that meet the promise are the same: reply, state, figure and all.
-pub one-answer : (s : Protector) (initial : Float) (t : ℕ) (p peak level : Float)
-    → Once (made initial t) × Once (passes s) × Once (stepped s p peak level) × Once (gap s) × Once (reset s) × Once (told s)
-one-answer s initial t p peak level = (one-outcome, one-outcome, one-outcome, one-outcome, one-outcome, one-outcome)
+pub one-answer : (s : Protector) (initial : Float) (t n : ℕ) (p peak level : Float)
+    → Once (made initial t n) × Once (passes s) × Once (stepped s p peak level) × Once (gap s) × Once (reset s) × Once (told s)
+one-answer s initial t n p peak level = (one-outcome, one-outcome, one-outcome, one-outcome, one-outcome, one-outcome)

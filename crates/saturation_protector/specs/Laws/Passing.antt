@@ -2,9 +2,9 @@
 -- Assumes nothing.
 use mathlib.Core.Path.{_≡_, refl, sym, ap, _∙_}
 use mathlib.Core.Bool.{Bool, true, false, cond}
-use Prim.Native.Nat.{_+_, _%_}
+use Prim.Native.Nat.{ℕ, _+_, _%_}
 use native.Mathlib.Omega.{arith}
-use lib.Dec.{ltb, lit<}
+use lib.Dec.{ltb}
 use lib.Seq.{take-set-lt}
 use lib.Ieee.{Float, binary32, sub}
 use borrow.Author.Tests.{ltb-false, le-leb, eq-eqb}
@@ -19,16 +19,16 @@ use Rattle.saturation_protector_buffer.specs.declared.Ring.{Ring as Stored}
 use Rattle.saturation_protector.specs.Peaks.{lowest, longest, frameTime, least, most, time, allLevels, oldestOr, starting, restarted, passes, advanced}
 use Rattle.saturation_protector.specs.declared.Peaks.{Peaks}
 use Rattle.saturation_protector.specs.Laws.Tests.{passed, passing, level-finite, larger-level, time-tens}
-use Rattle.saturation_protector.specs.Laws.Rings.{either-passes, pushed-ring}
+use Rattle.saturation_protector.specs.Laws.Rings.{pushed-when-passes}
 use Rattle.saturation_protector.specs.Laws.Levels.{levels-set, empty-levels, lowest-level, items-levels, oldest-level, either-level}
 use Rattle.saturation_protector.specs.Laws.Nan.{sub-real, finite-real}
 use Rattle.saturation_protector.specs.Laws.Range.{nearer-in, in-headroom}
 
 -- The state at the start passes.
-pub starting-passes : (h : Float) → headroom h ≡ true → passes (starting h) ≡ true
+pub starting-passes : (h : Float) (n : ℕ) → headroom h ≡ true → Ring.isCapacity n ≡ true → passes (starting h n) ≡ true
 unfolding starting
-starting-passes h p =
-    passing (starting h) (record { headroom = p; ring = Rings.empty-passes Ring.capacity Ring.storage (lit< tt); stored = empty-levels Ring.capacity Ring.storage; largest = lowest-level; time = refl })
+starting-passes h n p c =
+    passing (starting h n) (record { ring = Rings.empty-passes n c; headroom = p; stored = empty-levels n; largest = lowest-level; time = refl })
 
 -- A state that passes does so after a reset.
 pub restarted-passes : (h : Float) (s : Peaks) → headroom h ≡ true → passes s ≡ true → passes (restarted h s) ≡ true
@@ -36,7 +36,7 @@ unfolding restarted Ring.reset
 restarted-passes h s p q =
     let was = passed s q in
     passing (restarted h s)
-    (record { headroom = p; ring = Rings.reset-passes Ring.capacity (s .ring) (was .ring); stored = was .stored; largest = lowest-level; time = refl })
+    (record { headroom = p; ring = Rings.reset-passes (s .ring) (was .ring); stored = was .stored; largest = lowest-level; time = refl })
 
 module _ (peak speechLevel : Float) (s : Peaks) (h : passes s ≡ true) (p : level peak ≡ true) (l : level speechLevel ≡ true) where
   -- the largest peak with this one in it, whether it is pushed, and the ring and the largest peak after that
@@ -55,15 +55,10 @@ module _ (peak speechLevel : Float) (s : Peaks) (h : passes s ≡ true) (p : lev
   new-level : level new ≡ true
   new-level = larger-level (s .largest) peak (passed s h .largest) p
 
-  push-passes : Ring.passes (Ring.push (s .ring) new) ≡ true
-  push-passes =
-      let r = passed s h .ring in
-      ap Ring.passes (sym (pushed-ring Ring.capacity (s .ring) new r (level-finite new new-level))) ∙ Rings.pushed-passes Ring.capacity (s .ring) r new
-
   push-levels : allLevels (Ring.slots (Ring.push (s .ring) new)) ≡ true
-  unfolding Ring.pushOf
+  unfolding Ring.push
   push-levels =
-      rw (take-set-lt Ring.capacity (s .ring .stored) (s .ring .place) new (Rings.within Ring.capacity (s .ring) (passed s h .ring) .place))
+      rw (take-set-lt (s .ring .capacity) (s .ring .stored) (s .ring .place) new (Rings.within (s .ring) (passed s h .ring) .place))
       (levels-set (Ring.slots (s .ring)) (s .ring .place) new (passed s h .stored) new-level)
 
   ring-levels : allLevels (Ring.slots ring) ≡ true
@@ -81,7 +76,7 @@ module _ (peak speechLevel : Float) (s : Peaks) (h : passes s ≡ true) (p : lev
   unfolding advanced
   advanced-in =
       let oldest = oldestOr (Ring.items ring) largest in
-      let o = level-finite oldest (oldest-level (Ring.items ring) largest (items-levels Ring.capacity ring ring-levels) largest-level) in
+      let o = level-finite oldest (oldest-level (Ring.items ring) largest (items-levels ring ring-levels) largest-level) in
       nearer-in (s .headroom) (sub binary32 oldest speechLevel) (passed s h .headroom)
       (sub-real oldest speechLevel (so o) (finite-real speechLevel (so (level-finite speechLevel l))))
 
@@ -101,7 +96,7 @@ module _ (peak speechLevel : Float) (s : Peaks) (h : passes s ≡ true) (p : lev
       passing (advanced peak speechLevel s)
       (record {
         headroom = in-headroom (advanced peak speechLevel s .headroom) advanced-in;
-        ring = either-passes Ring.capacity due (Ring.push (s .ring) new) (s .ring) push-passes (passed s h .ring);
+        ring = pushed-when-passes due (s .ring) new (passed s h .ring) (level-finite new new-level);
         stored = ring-levels;
         largest = largest-level;
         time = later;

@@ -15,6 +15,7 @@ use Rattle.runs.specs.Runs.{speech, Run, advanced, closed, framed, published}
 use Rattle.runs.specs.Histories.{after, advancedBy, Settled}
 use Rattle.runs.specs.Laws.Counts.{longer-below}
 use Rattle.runs.specs.Laws.Short.{short-run, long-run, framed-settled}
+use Rattle.saturation_protector_buffer.specs.Ring.{isCapacity}
 use Rattle.saturation_protector.specs.Peaks as Peaks
 use Rattle.saturation_protector.specs.Protector.{run, passes, nothing, fresh, again, analyzed}
 use Rattle.saturation_protector.specs.Calls.{made, reset}
@@ -106,11 +107,11 @@ module _ (s : Protector) (fs : List Figures) (f : Figures) (state : passes s ≡
 
 -- ---- which protectors are settled
 -- A new protector is settled.
-pub made-settled : (initial : Float) (t : ℕ) → Settled (run (made initial t .protector))
+pub made-settled : (initial : Float) (t n : ℕ) → Settled (run (made initial t n .protector))
 unfolding made fresh nothing
-made-settled initial t = go (threshold t && headroom initial)
+made-settled initial t n = go (threshold t && isCapacity n && headroom initial)
   where
-    go : (b : Bool) → Settled (run (cond b (fresh initial t) nothing))
+    go : (b : Bool) → Settled (run (cond b (fresh initial t n) nothing))
     go true = record { same = λ h. refl }
     go false = record { same = λ h. refl }
 

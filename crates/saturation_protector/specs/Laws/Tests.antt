@@ -7,7 +7,7 @@ use Prim.Native.Nat.{_≤_, _%_}
 use lib.Dec.{leb, eqb}
 use lib.Ieee.{Float, nan, inf, fin, ofBits, le, lt, eq}
 use lib.Ieee.Scale.{finite}
-use borrow.Author.Tests.{leb-true, eqb-true, le-leb}
+use borrow.Author.Tests.{leb-true, eqb-true, le-leb, eq-eqb}
 use Rattle.lists.specs.Tests.{each-of, _and_}
 use Rattle.units.specs.Figures.{level, headroom}
 use Rattle.units.specs.Settings.{threshold}
@@ -46,8 +46,8 @@ larger-level x y h k = go (lt x y)
 
 -- ---- the state of the peaks
 pub record Passed (s : State) : Type 0 where
-  pub headroom : headroom (s .headroom) ≡ true
   pub ring : Ring.passes (s .ring) ≡ true
+  pub headroom : headroom (s .headroom) ≡ true
   pub stored : allLevels (Ring.slots (s .ring)) ≡ true
   pub largest : level (s .largest) ≡ true
   pub time : time (s .elapsed) ≡ true
@@ -57,12 +57,12 @@ pub passed : (s : State) → Peaks.passes s ≡ true → Passed s
 unfolding Peaks.passes
 passed s h =
     let p = each-of (_ ∷ _ ∷ _ ∷ _ ∷ _ ∷ []) h in
-    record { headroom = p 0; ring = p 1; stored = p 2; largest = p 3; time = p 4 }
+    record { ring = p 0; headroom = p 1; stored = p 2; largest = p 3; time = p 4 }
 
 -- And what has all five passes.
 pub passing : (s : State) → Passed s → Peaks.passes s ≡ true
 unfolding Peaks.passes
-passing s p = p .headroom and p .ring and p .stored and p .largest and p .time
+passing s p = p .ring and p .headroom and p .stored and p .largest and p .time
 
 -- The time of a state that passes is at most 400 ms,
 pub time-most : (s : State) → Peaks.passes s ≡ true → s .elapsed ≤ longest
@@ -80,15 +80,25 @@ pub record PassedWhole (s : Whole) : Type 0 where
   pub headroom : headroom (s .headroom) ≡ true
   pub preliminary : Peaks.passes (s .preliminary) ≡ true
   pub reliable : Peaks.passes (s .reliable) ≡ true
+  pub alike : s .preliminary .ring .capacity ≡ s .reliable .ring .capacity
 
 -- What a protector that passes has.
 pub passed-whole : (s : Whole) → Protector.passes s ≡ true → PassedWhole s
 unfolding Protector.passes
 passed-whole s h =
-    let p = each-of (_ ∷ _ ∷ _ ∷ _ ∷ _ ∷ _ ∷ []) h in
-    record { initial = p 0; threshold = p 1; count = leb-true (s .count) (s .threshold) (p 2); headroom = p 3; preliminary = p 4; reliable = p 5 }
+    let p = each-of (_ ∷ _ ∷ _ ∷ _ ∷ _ ∷ _ ∷ _ ∷ []) h in
+    record {
+      initial = p 0;
+      threshold = p 1;
+      count = leb-true (s .count) (s .threshold) (p 2);
+      headroom = p 3;
+      preliminary = p 4;
+      reliable = p 5;
+      alike = eqb-true (s .preliminary .ring .capacity) (s .reliable .ring .capacity) (p 6);
+    }
 
--- And what has all six passes.
+-- And what has all seven passes.
 pub passing-whole : (s : Whole) → PassedWhole s → Protector.passes s ≡ true
 unfolding Protector.passes
 passing-whole s p = p .initial and p .threshold and le-leb (s .count) (s .threshold) (p .count) and p .headroom and p .preliminary and p .reliable
+    and eq-eqb (s .preliminary .ring .capacity) (s .reliable .ring .capacity) (p .alike)

@@ -11,15 +11,15 @@ use lib.Seq.{length-take-le, getD-take}
 use borrow.Author.Needs.{needs}
 use Rattle.lists.specs.Loops.{scan, scan-done}
 use Rattle.saturation_protector_buffer.specs.Rings.{slots, allFinite}
-use Rattle.saturation_protector_buffer.specs.Ring.{capacity, storage}
+use Rattle.saturation_protector_buffer.specs.Ring.{largest}
 use Rattle.saturation_protector_buffer.proofs.are_finite.Statement.{statement}
 use Rattle.saturation_protector_buffer.proofs.are_finite.Tie as tie
 
 abbrev Inv-loop : tie.InvT-loop
-Inv-loop stored ok₀ i₀ ok i = (i ≤ capacity) × (ok && allFinite (drop i (slots capacity stored)) ≡ allFinite (slots capacity stored))
+Inv-loop n stored ok₀ i₀ ok i = (i ≤ n) × (ok && allFinite (drop i (slots n stored)) ≡ allFinite (slots n stored))
 
 abbrev μ-loop : tie.MeasureT-loop
-μ-loop stored ok₀ i₀ ok i = capacity - i
+μ-loop n stored ok₀ i₀ ok i = n - i
 
 loop-holds : tie.Need-loop-holds Inv-loop μ-loop
 loop-holds c = search needs
@@ -43,14 +43,15 @@ loop-again : tie.Need-loop-again Inv-loop μ-loop
 unfolding allFinite
 loop-again c =
     let stored = c .before .before .before .args .t1 in
+    let n = c .before .before .before .args .n in
     let loop = c .before .before .loop in
     let ok = loop .ok in
     let r = c .is-finite .result in
-    let long : length stored ≡ storage = search needs in
-    let whole : length (slots capacity stored) ≡ capacity = length-take-le capacity stored (omega arith) in (
+    let long : length stored ≡ largest = search needs in
+    let whole : length (slots n stored) ≡ n = length-take-le n stored (omega arith) in (
       omega arith,
-      scan (λ (ys : List Float). ok && allFinite ys) (λ (ys : List Float). ok && r && allFinite ys) (slots capacity stored) (loop .i) nan (omega arith)
-          (rw (c .is-finite .ensures, getD-take capacity stored (loop .i) nan (omega arith)) (sym (and-assoc ok _ _)))
+      scan (λ (ys : List Float). ok && allFinite ys) (λ (ys : List Float). ok && r && allFinite ys) (slots n stored) (loop .i) nan (omega arith)
+          (rw (c .is-finite .ensures, getD-take n stored (loop .i) nan (omega arith)) (sym (and-assoc ok _ _)))
           ∙ loop .inv .1,
     )
 
@@ -58,10 +59,11 @@ returns : tie.Need-returns Inv-loop μ-loop
 unfolding allFinite
 returns c =
     let stored = c .before .before .args .t1 in
+    let n = c .before .before .args .n in
     let loop = c .before .loop in
-    let long : length stored ≡ storage = search needs in
-    let whole : length (slots capacity stored) ≡ capacity = length-take-le capacity stored (omega arith) in
-    sym (and-true (loop .ok)) ∙ sym (scan-done (λ (ys : List Float). loop .ok && allFinite ys) (slots capacity stored) (loop .i) (omega arith)) ∙ loop .inv .1
+    let long : length stored ≡ largest = search needs in
+    let whole : length (slots n stored) ≡ n = length-take-le n stored (omega arith) in
+    sym (and-true (loop .ok)) ∙ sym (scan-done (λ (ys : List Float). loop .ok && allFinite ys) (slots n stored) (loop .i) (omega arith)) ∙ loop .inv .1
 
 pub are-finite-spec : {M : Type 1} → statement M
 are-finite-spec =

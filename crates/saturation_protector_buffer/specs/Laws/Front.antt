@@ -1,4 +1,4 @@
--- The oldest of a ring over any size n, in the Rust's words: none where there is no item, and otherwise what is stored at the front index. Laws.
+-- The oldest of a ring, in the Rust's words: none where there is no item, and otherwise what is stored at the front index. Laws.
 -- Assumes nothing.
 use mathlib.Core.Path.{_≡_, refl, ap, _∙_}
 use mathlib.Core.List.{List, [], _∷_}
@@ -9,7 +9,7 @@ use lib.Arith.{le-zero}
 use lib.ListN.{length, getD}
 use lib.Ieee.{Float, nan}
 use Rattle.saturation_protector_buffer.specs.Rings.{start}
-use Rattle.saturation_protector_buffer.specs.Ring.{Said, itemsOf}
+use Rattle.saturation_protector_buffer.specs.Ring.{Said, items}
 use Rattle.saturation_protector_buffer.specs.Calls.{oldest}
 use Rattle.saturation_protector_buffer.specs.Steps.{Within}
 use Rattle.saturation_protector_buffer.specs.declared.Ring.{Ring}
@@ -21,14 +21,14 @@ oldest-first [] h = absurd (not-suc-le-zero h)
 oldest-first (x ∷ xs) h = refl
 
 -- Where there is an item, the oldest is what is stored at the front index.
-pub oldest-stored : (n : ℕ) (r : Ring) → n ≤ length (r .stored) → Within n r → 0 < r .size
-    → oldest (itemsOf n r) ≡ record { number = 1; values = getD (r .stored) (start n (r .place) (r .size)) nan ∷ [] }
-unfolding itemsOf
-oldest-stored n r long w h =
-    oldest-first (itemsOf n r) (omega (arith, length-items n (r .stored) (r .place) (r .size) long (w .place) (w .size)))
-    ∙ ap {B = Said} (λ (x : Float). record { number = 1; values = x ∷ [] }) (front-at n (r .stored) (r .place) (r .size) long (w .place) (w .size) nan h)
+pub oldest-stored : (r : Ring) → r .capacity ≤ length (r .stored) → Within r → 0 < r .size
+    → oldest (items r) ≡ record { number = 1; values = getD (r .stored) (start (r .capacity) (r .place) (r .size)) nan ∷ [] }
+unfolding items
+oldest-stored r long w h =
+    oldest-first (items r) (omega (arith, length-items (r .capacity) (r .stored) (r .place) (r .size) long (w .place) (w .size)))
+    ∙ ap {B = Said} (λ (x : Float). record { number = 1; values = x ∷ [] }) (front-at (r .capacity) (r .stored) (r .place) (r .size) long (w .place) (w .size) nan h)
 
 -- Where there is none, there is no oldest.
-pub oldest-none : (n : ℕ) (r : Ring) → r .size ≤ 0 → oldest (itemsOf n r) ≡ record { number = 0; values = [] }
-unfolding itemsOf oldest
-oldest-none n r h = rw (le-zero h)
+pub oldest-none : (r : Ring) → r .size ≤ 0 → oldest (items r) ≡ record { number = 0; values = [] }
+unfolding items oldest
+oldest-none r h = rw (le-zero h)

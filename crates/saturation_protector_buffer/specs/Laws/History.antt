@@ -1,90 +1,105 @@
--- From a new ring the items are the last n accepted pushes in order, whatever was refused between: over any size n and any storage of at least n slots.
--- Laws. Assumes nothing.
+-- From a new ring the items are the last accepted pushes in order, as many as its capacity, whatever was refused between. Laws.
+-- Assumes nothing.
 use mathlib.Core.Path.{_≡_, refl, sym, ap, _∙_}
 use mathlib.Core.Bool.{Bool, true, false, cond}
 use mathlib.Core.List.{List, [], _∷_, _++_, append-nil}
-use Prim.Native.Nat.{ℕ, _≤_, _<_}
+use Prim.Native.Nat.{ℕ, _≤_}
 use native.Mathlib.Omega.{arith}
-use lib.Dec.{lit<, lit≤}
 use lib.ListN.{length, length-replicate}
 use lib.Seq.{append-snoc}
 use lib.Ieee.{Float, binary32, ofBits}
 use lib.Ieee.Scale.{finite}
+use Rattle.units.specs.Replies.{done}
 use Rattle.saturation_protector_buffer.specs.Rings as Rings
 use Rattle.saturation_protector_buffer.specs.Rings.{lastOf}
-use Rattle.saturation_protector_buffer.specs.Ring.{emptyOf, passesOf, pushOf, reset, itemsOf, capacity, storage, empty, passes, items}
-use Rattle.saturation_protector_buffer.specs.Calls.{pushedOf}
-use Rattle.saturation_protector_buffer.specs.History.{accepted, after-pushes-of, after-pushes}
+use Rattle.saturation_protector_buffer.specs.Ring.{largest, isCapacity, empty, passes, push, reset, items}
+use Rattle.saturation_protector_buffer.specs.Calls.{made, pushed, oldest, fronted}
+use Rattle.saturation_protector_buffer.specs.History.{accepted, after-pushes}
 use Rattle.saturation_protector_buffer.specs.declared.Ring.{Ring}
 use Rattle.saturation_protector_buffer.specs.Laws.Places.{length-items}
 use Rattle.saturation_protector_buffer.specs.Laws.Pushes.{Sound, last-short, last-last, push-items, push-sound}
-use Rattle.saturation_protector_buffer.specs.Laws.Passing.{fitting, empty-passes, pushed-passes, reset-passes}
+use Rattle.saturation_protector_buffer.specs.Laws.Capacity.{pushed-capacity}
+use Rattle.saturation_protector_buffer.specs.Laws.Passing.{capacity-least, capacity-most, passed, made-empty, empty-passes, pushed-passes, reset-passes}
 
--- a ring that is sound for the size n
-abbrev pub SoundRing : ℕ → Ring → Type 0
-SoundRing n r = Sound n (r .stored) (r .place) (r .size)
+-- a ring that is sound for its capacity
+abbrev pub SoundRing : Ring → Type 0
+SoundRing r = Sound (r .capacity) (r .stored) (r .place) (r .size)
 
-module _ (n : ℕ) where
-  -- A new ring is sound.
-  pub new-sound : (storage : ℕ) → 0 < n → n ≤ storage → SoundRing n (emptyOf storage)
-  unfolding emptyOf
-  new-sound storage h long =
-      record { long = omega (arith, length-replicate storage (ofBits binary32 0x0000_0000)); inside = h; most = omega arith; early = λ less. refl }
+-- An empty ring is sound.
+pub empty-sound : (n : ℕ) → isCapacity n ≡ true → SoundRing (empty n)
+unfolding empty
+empty-sound n h =
+    record {
+      long = omega (arith, length-replicate largest (ofBits binary32 0x0000_0000), capacity-most n h);
+      inside = capacity-least n h;
+      most = omega arith;
+      early = λ less. refl;
+    }
 
-  -- A ring whose storage is long enough is sound after a reset.
-  pub reset-sound : 0 < n → (r : Ring) → n ≤ length (r .stored) → SoundRing n (reset r)
-  unfolding reset
-  reset-sound h r long = record { long = long; inside = h; most = omega arith; early = λ less. refl }
+-- A ring that passes, and whose storage is long enough, is sound after a reset.
+pub reset-sound : (r : Ring) → passes r ≡ true → r .capacity ≤ length (r .stored) → SoundRing (reset r)
+unfolding reset
+reset-sound r h long = record { long = long; inside = capacity-least (r .capacity) (passed r h .capacity); most = omega arith; early = λ less. refl }
 
-  -- one push more, before whatever comes after
-  one-push : (r : Ring) (v : Float) (ys : List Float) (b : Bool) → SoundRing n r
-      → SoundRing n (cond b (pushOf n r v) r) × (lastOf n (itemsOf n (cond b (pushOf n r v) r) ++ ys) ≡ lastOf n (itemsOf n r ++ cond b (v ∷ ys) ys))
-  unfolding pushOf itemsOf
-  one-push r v ys true s = (
-    push-sound n (r .stored) (r .place) (r .size) v s,
-    ap (λ (xs : List Float). lastOf n (xs ++ ys)) (push-items n (r .stored) (r .place) (r .size) v s)
-        ∙ last-last n (itemsOf n r ++ (v ∷ [])) ys
-        ∙ ap (lastOf n) (append-snoc (itemsOf n r) v ys),
-  )
-  one-push r v ys false s = (s, refl)
+-- one push more, before whatever comes after
+one-push : (r : Ring) (v : Float) (ys : List Float) (b : Bool) → SoundRing r
+    → SoundRing (cond b (push r v) r) × (lastOf (r .capacity) (items (cond b (push r v) r) ++ ys) ≡ lastOf (r .capacity) (items r ++ cond b (v ∷ ys) ys))
+unfolding push items
+one-push r v ys true s =
+    let n = r .capacity in (
+      push-sound n (r .stored) (r .place) (r .size) v s,
+      ap (λ (xs : List Float). lastOf n (xs ++ ys)) (push-items n (r .stored) (r .place) (r .size) v s)
+          ∙ last-last n (items r ++ (v ∷ [])) ys
+          ∙ ap (lastOf n) (append-snoc (items r) v ys),
+    )
+one-push r v ys false s = (s, refl)
 
-  -- on a ring that passes, one call is one push of a finite number
-  one-call : (r : Ring) (v : Float) → passesOf n r ≡ true → pushedOf n r v .ring ≡ cond (finite v) (pushOf n r v) r
-  unfolding pushedOf
-  one-call r v h = rw h
+-- on a ring that passes, one call is one push of a finite number
+one-call : (r : Ring) (v : Float) → passes r ≡ true → pushed r v .ring ≡ cond (finite v) (push r v) r
+unfolding pushed
+one-call r v h = rw h
 
-  -- From any sound ring that passes, the promised calls leave the last n of its items and of the accepted pushes in order.
-  pub history-from : (r : Ring) (vs : List Float) → passesOf n r ≡ true → SoundRing n r
-      → itemsOf n (after-pushes-of n r vs) ≡ lastOf n (itemsOf n r ++ accepted vs)
-  unfolding after-pushes-of accepted itemsOf
-  history-from r [] h s =
-      sym (last-short n (itemsOf n r ++ []) (rw append-nil (omega (arith, length-items n (r .stored) (r .place) (r .size) (s .long) (s .inside) (s .most))))
-      ∙ append-nil (itemsOf n r))
-  history-from r (v ∷ vs) h s =
-      let one = one-push r v (accepted vs) (finite v) s in
-      let call = one-call r v h in
-      history-from (pushedOf n r v .ring) vs (pushed-passes n r h v) (rw call (one .0)) ∙ rw call (one .1)
+-- From any sound ring that passes, the promised calls leave the last of its items and of the accepted pushes in order, as many as its capacity.
+pub history-from : (r : Ring) (vs : List Float) → passes r ≡ true → SoundRing r
+    → items (after-pushes r vs) ≡ lastOf (r .capacity) (items r ++ accepted vs)
+unfolding after-pushes accepted items
+history-from r [] h s =
+    let n = r .capacity in
+    sym (last-short n (items r ++ []) (rw append-nil (omega (arith, length-items n (r .stored) (r .place) (r .size) (s .long) (s .inside) (s .most))))
+    ∙ append-nil (items r))
+history-from r (v ∷ vs) h s =
+    let one = one-push r v (accepted vs) (finite v) s in
+    let call = one-call r v h in
+    history-from (pushed r v .ring) vs (pushed-passes r h v) (rw call (one .0))
+    ∙ ap (λ (n : ℕ). lastOf n (items (pushed r v .ring) ++ accepted vs)) (pushed-capacity r v)
+    ∙ rw call (one .1)
 
-  -- From a new ring: the last n accepted pushes in order.
-  pub history-of : (storage : ℕ) → 0 < n → n ≤ storage → (vs : List Float) → itemsOf n (after-pushes-of n (emptyOf storage) vs) ≡ lastOf n (accepted vs)
-  unfolding emptyOf itemsOf Rings.items
-  history-of storage h long vs = history-from (emptyOf storage) vs (empty-passes n storage h) (new-sound storage h long)
+-- From an empty ring of n: the last n accepted pushes in order.
+pub history-of : (n : ℕ) → isCapacity n ≡ true → (vs : List Float) → items (after-pushes (empty n) vs) ≡ lastOf n (accepted vs)
+unfolding empty items Rings.items
+history-of n h vs = history-from (empty n) vs (empty-passes n h) (empty-sound n h)
 
-  -- And so from a reset.
-  pub history-reset : (r : Ring) (vs : List Float) → passesOf n r ≡ true → n ≤ length (r .stored)
-      → itemsOf n (after-pushes-of n (reset r) vs) ≡ lastOf n (accepted vs)
-  unfolding reset itemsOf passesOf
-  history-reset r vs h long =
-      let there = fitting n (r .stored) (r .place) (r .size) h in
-      history-from (reset r) vs (reset-passes n r h) (reset-sound (omega (arith, there .inside)) r long)
+-- And so from a reset.
+pub history-reset : (r : Ring) (vs : List Float) → passes r ≡ true → r .capacity ≤ length (r .stored)
+    → items (after-pushes (reset r) vs) ≡ lastOf (r .capacity) (accepted vs)
+unfolding reset items Rings.items
+history-reset r vs h long = history-from (reset r) vs (reset-passes r h) (reset-sound r h long)
 
-  -- Whatever is pushed, a ring that passes goes on passing.
-  pub after-pushes-pass : (r : Ring) (vs : List Float) → passesOf n r ≡ true → passesOf n (after-pushes-of n r vs) ≡ true
-  unfolding after-pushes-of
-  after-pushes-pass r [] h = h
-  after-pushes-pass r (v ∷ vs) h = after-pushes-pass (pushedOf n r v .ring) vs (pushed-passes n r h v)
+-- Whatever is pushed, a ring that passes goes on passing.
+pub after-pushes-pass : (r : Ring) (vs : List Float) → passes r ≡ true → passes (after-pushes r vs) ≡ true
+unfolding after-pushes
+after-pushes-pass r [] h = h
+after-pushes-pass r (v ∷ vs) h = after-pushes-pass (pushed r v .ring) vs (pushed-passes r h v)
 
--- ---- the code's ring
--- From a new ring its calls leave the last accepted pushes in order, as many as its capacity.
-pub pushed-history : (vs : List Float) → items (after-pushes empty vs) ≡ lastOf capacity (accepted vs)
-pushed-history vs = history-of capacity storage (lit< tt) (lit≤ tt) vs
+-- ---- a new ring of the capacity n, which was not refused
+module _ (n : ℕ) (new : made n .reply ≡ done) where
+  -- Its calls leave the last n accepted pushes in order,
+  pub pushed-history : (vs : List Float) → items (after-pushes (made n .ring) vs) ≡ lastOf n (accepted vs)
+  pushed-history vs = let k = made-empty n new in rw (k .1) (history-of n (k .0) vs)
+
+  -- so the front is the first of them: after n accepted pushes or more, the one that was pushed n pushes ago.
+  pub oldest-history : (vs : List Float) → fronted (after-pushes (made n .ring) vs) ≡ record { reply = done; front = oldest (lastOf n (accepted vs)) }
+  unfolding fronted
+  oldest-history vs =
+      let k = made-empty n new in
+      rw (after-pushes-pass (made n .ring) vs (rw (k .1) (empty-passes n (k .0))), pushed-history vs) refl

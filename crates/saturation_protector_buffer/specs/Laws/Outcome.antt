@@ -1,13 +1,12 @@
 -- What the promise of `front` is worth: what is told of an answer determines it. (The others are equations of the answer itself: `one-outcome` of `lists`.) Laws.
 -- Assumes nothing.
 use mathlib.Core.Path.{_≡_, refl, ap}
-use Prim.Native.Nat.{ℕ}
 use native.Mathlib.Omega.{arith}
 use lib.ListN.{getD}
 use lib.Ieee.{Float}
 use Rattle.lists.specs.Promise.{one-outcome}
 use Rattle.saturation_protector_buffer.specs.Ring.{Said, said}
-use Rattle.saturation_protector_buffer.specs.Calls.{Told, told, frontedOf}
+use Rattle.saturation_protector_buffer.specs.Calls.{Told, told, fronted}
 use Rattle.saturation_protector_buffer.specs.declared.Ring.{Ring}
 use Rattle.saturation_protector_buffer.specs.declared.Found.{Found}
 use Rattle.saturation_protector_buffer.specs.declared.Front.{Front}
@@ -31,5 +30,5 @@ told-one f g h =
     λ i. record { reply = p i; front = q i }
 
 -- So the promise of `front` leaves one outcome.
-pub front-one : (n : ℕ) (r : Ring) (f g : Found) → told f ≡ frontedOf n r → told g ≡ frontedOf n r → f ≡ g
-front-one n r f g p q = told-one f g (one-outcome (told f) (told g) p q)
+pub front-one : (r : Ring) (f g : Found) → told f ≡ fronted r → told g ≡ fronted r → f ≡ g
+front-one r f g p q = told-one f g (one-outcome (told f) (told g) p q)

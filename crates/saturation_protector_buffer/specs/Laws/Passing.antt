@@ -1,4 +1,4 @@
--- A new ring passes its test, and so does what every accepted call hands back: over any size n, and over any storage. Laws.
+-- A new ring passes its test, and so does what every accepted call hands back: of any capacity. Laws.
 -- Assumes nothing.
 use mathlib.Core.Path.{_≡_, refl, ap, _∙_}
 use mathlib.Core.Bool.{Bool, true, false, _&&_, cond}
@@ -14,30 +14,12 @@ use borrow.Author.Tests.{ltb-true, leb-true, lt-ltb, le-leb}
 use Rattle.lists.specs.Tests.{each-of, _and_}
 use Rattle.units.specs.Replies.{done}
 use Rattle.units.specs.Laws.Replies.{none-refused}
-use Rattle.saturation_protector_buffer.specs.Rings.{slots, allFinite, fitsRing, after, more}
-use Rattle.saturation_protector_buffer.specs.Ring.{emptyOf, passesOf, pushOf, reset}
-use Rattle.saturation_protector_buffer.specs.Calls.{pushedOf, forgottenOf}
+use Rattle.saturation_protector_buffer.specs.Rings.{allFinite, after, more}
+use Rattle.saturation_protector_buffer.specs.Ring.{largest, isCapacity, empty, slots, fits, passes, push, reset}
+use Rattle.saturation_protector_buffer.specs.Calls.{made, pushed, forgotten}
 use Rattle.saturation_protector_buffer.specs.Steps.{Within}
 use Rattle.saturation_protector_buffer.specs.declared.Ring.{Ring}
 use Rattle.saturation_protector_buffer.specs.Laws.Pushes.{after-inside, more-most}
-
--- what a ring of n that passes has
-pub record Fitting (n : ℕ) (stored : List Float) (place size : ℕ) : Type 0 where
-  pub inside : place < n
-  pub most : size ≤ n
-  pub numbers : allFinite (slots n stored) ≡ true
-
-module _ (n : ℕ) (stored : List Float) (place size : ℕ) where
-  -- A ring passes exactly where its place and size lie in their ranges and every slot is finite.
-  pub fitting : fitsRing n stored place size ≡ true → Fitting n stored place size
-  unfolding fitsRing
-  fitting h =
-      let p = each-of (ltb place n ∷ leb size n ∷ allFinite (slots n stored) ∷ []) h in
-      record { inside = ltb-true place n (p 0); most = leb-true size n (p 1); numbers = p 2 }
-
-  pub fits : Fitting n stored place size → fitsRing n stored place size ≡ true
-  unfolding fitsRing
-  fits f = lt-ltb place n (f .inside) and le-leb size n (f .most) and f .numbers
 
 -- A finite number stored anywhere leaves everything finite.
 pub finite-set : (xs : List Float) (i : ℕ) (v : Float) → allFinite xs ≡ true → finite v ≡ true → allFinite (set xs i v) ≡ true
@@ -63,84 +45,121 @@ finite-take (suc n) (x ∷ xs) h =
     let p = each-of (finite x ∷ allFinite xs ∷ []) h in
     p 0 and finite-take n xs (p 1)
 
--- New: an empty ring of n passes, however many zeros its storage has.
-pub new-fits : (n storage : ℕ) → 0 < n → fitsRing n (replicate storage (ofBits binary32 0x0000_0000)) 0 0 ≡ true
-unfolding ofBits
-new-fits n storage h =
-    let zeros = replicate storage (ofBits binary32 0x0000_0000) in
-    fits n zeros 0 0
-    (record { inside = h; most = omega arith; numbers = finite-take n zeros (finite-replicate storage (ofBits binary32 0x0000_0000) refl) })
+-- ---- the capacity
+-- A capacity is from 1 to the largest.
+pub capacity-least : (n : ℕ) → isCapacity n ≡ true → 0 < n
+unfolding isCapacity
+capacity-least n h = leb-true 1 n (each-of (leb 1 n ∷ leb n largest ∷ []) h 0)
 
-module _ (n : ℕ) (stored : List Float) (place size : ℕ) where
-  -- Push: of a finite number into a ring that passes.
-  pub push-fits : (v : Float) → fitsRing n stored place size ≡ true → finite v ≡ true → fitsRing n (set stored place v) (after n place) (more n size) ≡ true
-  push-fits v h f =
-      let was = fitting n stored place size h in
-      fits n (set stored place v) (after n place) (more n size)
+pub capacity-most : (n : ℕ) → isCapacity n ≡ true → n ≤ largest
+unfolding isCapacity
+capacity-most n h = leb-true n largest (each-of (leb 1 n ∷ leb n largest ∷ []) h 1)
+
+-- ---- the test
+-- what a ring has that passes
+pub record Passed (r : Ring) : Type 0 where
+  pub capacity : isCapacity (r .capacity) ≡ true
+  pub inside : r .place < r .capacity
+  pub most : r .size ≤ r .capacity
+  pub numbers : allFinite (slots r) ≡ true
+
+-- A ring passes exactly where its capacity, place and size lie in their ranges and every slot is finite.
+pub passed : (r : Ring) → passes r ≡ true → Passed r
+unfolding passes fits
+passed r h =
+    let p = each-of (isCapacity (r .capacity) ∷ ltb (r .place) (r .capacity) ∷ leb (r .size) (r .capacity) ∷ allFinite (slots r) ∷ []) h in
+    record { capacity = p 0; inside = ltb-true (r .place) (r .capacity) (p 1); most = leb-true (r .size) (r .capacity) (p 2); numbers = p 3 }
+
+pub passing : (r : Ring) → Passed r → passes r ≡ true
+unfolding passes fits
+passing r p = p .capacity and lt-ltb (r .place) (r .capacity) (p .inside) and le-leb (r .size) (r .capacity) (p .most) and p .numbers
+
+-- What the private steps ask is known of a ring whose numbers fit each other,
+pub fitting : (r : Ring) → fits r ≡ true → Within r
+unfolding fits
+fitting r h =
+    let p = each-of (isCapacity (r .capacity) ∷ ltb (r .place) (r .capacity) ∷ leb (r .size) (r .capacity) ∷ []) h in
+    record {
+      place = ltb-true (r .place) (r .capacity) (p 1);
+      size = leb-true (r .size) (r .capacity) (p 2);
+      capacity = capacity-most (r .capacity) (p 0);
+    }
+
+-- and so of one that passes.
+pub within : (r : Ring) → passes r ≡ true → Within r
+unfolding passes
+within r h = fitting r (each-of (fits r ∷ allFinite (slots r) ∷ []) h 0)
+
+-- ---- the calls
+-- An empty ring of a capacity passes: its storage is all 0.
+pub empty-passes : (n : ℕ) → isCapacity n ≡ true → passes (empty n) ≡ true
+unfolding empty ofBits
+empty-passes n h =
+    passing (empty n)
+    (record {
+      capacity = h;
+      inside = capacity-least n h;
+      most = omega arith;
+      numbers = finite-take n (empty n .stored) (finite-replicate largest (ofBits binary32 0x0000_0000) refl);
+    })
+
+module _ (r : Ring) (h : passes r ≡ true) where
+  push-passes : (v : Float) → finite v ≡ true → passes (push r v) ≡ true
+  unfolding push
+  push-passes v f =
+      let was = passed r h in
+      let n = r .capacity in
+      passing (push r v)
       (record {
-        inside = after-inside n place (was .inside);
-        most = more-most n size (was .most);
-        numbers = rw (take-set-lt n stored place v (was .inside)) (finite-set (slots n stored) place v (was .numbers) f);
+        capacity = was .capacity;
+        inside = after-inside n (r .place) (was .inside);
+        most = more-most n (r .size) (was .most);
+        numbers = rw (take-set-lt n (r .stored) (r .place) v (was .inside)) (finite-set (slots r) (r .place) v (was .numbers) f);
       })
 
-  -- Reset: of a ring that passes.
-  pub reset-fits : fitsRing n stored place size ≡ true → fitsRing n stored 0 0 ≡ true
-  reset-fits h =
-      let was = fitting n stored place size h in
-      fits n stored 0 0 (record { inside = omega (arith, was .inside); most = omega arith; numbers = was .numbers })
+  kept : (v : Float) (b : Bool) → finite v ≡ b → passes (cond b (push r v) r) ≡ true
+  kept v true f = push-passes v f
+  kept v false f = h
 
--- ---- the calls, over any size n
-module _ (n : ℕ) where
-  -- A new ring passes, over any storage.
-  pub empty-passes : (storage : ℕ) → 0 < n → passesOf n (emptyOf storage) ≡ true
-  unfolding passesOf emptyOf
-  empty-passes storage h = new-fits n storage h
+  -- A ring that passes is handed back as one that passes, whatever is pushed.
+  pub pushed-passes : (v : Float) → passes (pushed r v .ring) ≡ true
+  unfolding pushed
+  pushed-passes v = ap (λ (b : Bool). passes (cond (b && finite v) (push r v) r)) h ∙ kept v (finite v) refl
 
-  -- What the private steps ask is known of a ring that passes.
-  pub within : (r : Ring) → passesOf n r ≡ true → Within n r
-  unfolding passesOf
-  within r h =
-      let f = fitting n (r .stored) (r .place) (r .size) h in
-      record { place = f .inside; size = f .most }
+  -- A ring that passes does so after a reset.
+  pub reset-passes : passes (reset r) ≡ true
+  unfolding reset
+  reset-passes =
+      let was = passed r h in
+      passing (reset r) (record { capacity = was .capacity; inside = capacity-least (r .capacity) (was .capacity); most = omega arith; numbers = was .numbers })
 
-  module _ (r : Ring) (h : passesOf n r ≡ true) where
-    push-passes : (v : Float) → finite v ≡ true → passesOf n (pushOf n r v) ≡ true
-    unfolding passesOf pushOf
-    push-passes v f = push-fits n (r .stored) (r .place) (r .size) v h f
+  -- And so as the call hands it back.
+  pub forgotten-passes : passes (forgotten r .ring) ≡ true
+  unfolding forgotten
+  forgotten-passes = rw h reset-passes
 
-    kept : (v : Float) (b : Bool) → finite v ≡ b → passesOf n (cond b (pushOf n r v) r) ≡ true
-    kept v true f = push-passes v f
-    kept v false f = h
+-- A new ring that is not refused is empty, and of the capacity asked for; so it passes.
+pub made-empty : (n : ℕ) → made n .reply ≡ done → (isCapacity n ≡ true) × (made n .ring ≡ empty n)
+unfolding made
+made-empty n h = let k = none-refused true (isCapacity n) true true h .1 in (k, rw k refl)
 
-    -- A ring that passes is handed back as one that passes, whatever is pushed.
-    pub pushed-passes : (v : Float) → passesOf n (pushedOf n r v .ring) ≡ true
-    unfolding pushedOf
-    pushed-passes v = ap (λ (b : Bool). passesOf n (cond (b && finite v) (pushOf n r v) r)) h ∙ kept v (finite v) refl
+pub made-passes : (n : ℕ) → made n .reply ≡ done → passes (made n .ring) ≡ true
+made-passes n h = let k = made-empty n h in rw (k .1) (empty-passes n (k .0))
 
-    -- A ring that passes does so after a reset.
-    pub reset-passes : passesOf n (reset r) ≡ true
-    unfolding passesOf reset
-    reset-passes = reset-fits n (r .stored) (r .place) (r .size) h
+-- An accepted push is one of a finite number into a ring that passes.
+pub push-accepted : (r : Ring) (v : Float) → pushed r v .reply ≡ done → (passes r ≡ true) × (finite v ≡ true)
+unfolding pushed
+push-accepted r v h = let k = none-refused true (passes r) (finite v) true h in (k .1, k .2)
 
-    -- And so as the call hands it back.
-    pub forgotten-passes : passesOf n (forgottenOf n r .ring) ≡ true
-    unfolding forgottenOf
-    forgotten-passes = rw h reset-passes
+-- An accepted reset is one of a ring that passes.
+pub reset-accepted : (r : Ring) → forgotten r .reply ≡ done → passes r ≡ true
+unfolding forgotten
+reset-accepted r h = none-refused true (passes r) true true h .1
 
-  -- An accepted push is one of a finite number into a ring that passes.
-  pub push-accepted : (r : Ring) (v : Float) → pushedOf n r v .reply ≡ done → (passesOf n r ≡ true) × (finite v ≡ true)
-  unfolding pushedOf
-  push-accepted r v h = let k = none-refused true (passesOf n r) (finite v) true h in (k .1, k .2)
+-- Every accepted push gives a ring that passes.
+pub accepted-push-passes : (r : Ring) (v : Float) → pushed r v .reply ≡ done → passes (pushed r v .ring) ≡ true
+accepted-push-passes r v h = pushed-passes r (push-accepted r v h .0) v
 
-  -- An accepted reset is one of a ring that passes.
-  pub reset-accepted : (r : Ring) → forgottenOf n r .reply ≡ done → passesOf n r ≡ true
-  unfolding forgottenOf
-  reset-accepted r h = none-refused true (passesOf n r) true true h .1
-
-  -- Every accepted push gives a ring that passes.
-  pub accepted-push-passes : (r : Ring) (v : Float) → pushedOf n r v .reply ≡ done → passesOf n (pushedOf n r v .ring) ≡ true
-  accepted-push-passes r v h = pushed-passes r (push-accepted r v h .0) v
-
-  -- Every accepted reset gives a ring that passes.
-  pub accepted-reset-passes : (r : Ring) → forgottenOf n r .reply ≡ done → passesOf n (forgottenOf n r .ring) ≡ true
-  accepted-reset-passes r h = forgotten-passes r (reset-accepted r h)
+-- Every accepted reset gives a ring that passes.
+pub accepted-reset-passes : (r : Ring) → forgotten r .reply ≡ done → passes (forgotten r .ring) ≡ true
+accepted-reset-passes r h = forgotten-passes r (reset-accepted r h)

@@ -14,8 +14,8 @@ use lib.Ieee.Fits.{and-i}
 use Rattle.lists.specs.Tests.{each-passed}
 use Rattle.units.specs.Replies.{refusal, done}
 use Rattle.saturation_protector_buffer.specs.Rings.{sameItems}
-use Rattle.saturation_protector_buffer.specs.Ring.{passesOf, itemsOf}
-use Rattle.saturation_protector_buffer.specs.Calls.{comparedOf}
+use Rattle.saturation_protector_buffer.specs.Ring.{passes, items}
+use Rattle.saturation_protector_buffer.specs.Calls.{compared}
 use Rattle.saturation_protector_buffer.specs.declared.Ring.{Ring}
 
 -- as many, and at each index equal as floats
@@ -60,8 +60,8 @@ no false h = refl
 pub not-as-many : (xs ys : List Float) → (length xs ≡ length ys → ⊥) → sameItems xs ys ≡ false
 not-as-many xs ys h = no (sameItems xs ys) (λ t. h (forth xs ys t .long))
 
--- Of two rings that pass, each of its own size, the comparison is done, and says yes exactly where their items are alike.
-pub compared-alike : (n m : ℕ) (r s : Ring) → passesOf n r ≡ true → passesOf m s ≡ true
-    → (comparedOf n m r s .reply ≡ done) × (T (comparedOf n m r s .equal) ↔ Alike (itemsOf n r) (itemsOf m s))
-unfolding comparedOf refusal
-compared-alike n m r s p q = rw (p, q) (refl, same-items (itemsOf n r) (itemsOf m s))
+-- Of two rings that pass, each of its own capacity, the comparison is done, and says yes exactly where their items are alike.
+pub compared-alike : (r s : Ring) → passes r ≡ true → passes s ≡ true
+    → (compared r s .reply ≡ done) × (T (compared r s .equal) ↔ Alike (items r) (items s))
+unfolding compared refusal
+compared-alike r s p q = rw (p, q) (refl, same-items (items r) (items s))

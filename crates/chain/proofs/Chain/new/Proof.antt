@@ -13,6 +13,9 @@ accepted-requires c κs = search needs
 is-threshold-requires : tie.Need-is-threshold-requires
 is-threshold-requires c κs = search needs
 
+is-capacity-requires : tie.Need-is-capacity-requires
+is-capacity-requires c κs = search needs
+
 refusal-requires : tie.Need-refusal-requires
 refusal-requires c κs = search needs
 
@@ -28,8 +31,9 @@ four-requires c κs = search needs
 returns : tie.Need-returns
 returns c =
     let tests = c .before .before .before .before in
-    let s = tests .before .before .before in
-    made-parts (s .args .settings) (s .args .threshold) (s .args .samples) (tests .before .before .is-samples .ensures) (tests .before .accepted .ensures) (tests .is-threshold .ensures) (c .before .before .before .refusal .ensures) (c .before .before .pick-u32 .ensures) (c .before .pick-usize .ensures) (c .four .ensures)
+    let s = tests .before .before .before .before in
+    made-parts (s .args .settings) (s .args .threshold) (s .args .samples) (s .args .capacity) (tests .before .before .before .is-samples .ensures) (tests .before .before .accepted .ensures)
+    (tests .before .is-threshold .ensures) (tests .is-capacity .ensures) (c .before .before .before .refusal .ensures) (c .before .before .pick-u32 .ensures) (c .before .pick-usize .ensures) (c .four .ensures)
 
 pub new-spec : {M : Type 1} → statement M
 new-spec =
@@ -38,6 +42,7 @@ new-spec =
     is-samples-requires
     accepted-requires
     is-threshold-requires
+    is-capacity-requires
     refusal-requires
     pick-u32-requires
     pick-usize-requires

@@ -1,4 +1,4 @@
--- `saturation_protector::Protector::passes` meets its contract: six tests. Assumes nothing.
+-- `saturation_protector::Protector::passes` meets its contract: seven tests. Assumes nothing.
 use Rattle.saturation_protector.specs.Protector.{passes}
 use borrow.Author.Needs.{needs}
 use Rattle.saturation_protector.proofs.Protector.passes.Statement.{statement}
@@ -22,8 +22,9 @@ passes-requires-2 c κs = search needs
 returns : tie.Need-returns
 unfolding passes
 returns c =
-    let four = c .before .before .before .before in
-    rw (c .passes2 .ensures, c .before .passes .ensures, c .before .before .is-headroom2 .ensures, four .is-threshold .ensures, four .before .is-headroom .ensures)
+    let both = c .before .before in
+    let four = both .before .before .before .before in
+    rw (both .passes2 .ensures, both .before .passes .ensures, both .before .before .is-headroom2 .ensures, four .is-threshold .ensures, four .before .is-headroom .ensures)
 
 pub passes-spec : {M : Type 1} → statement M
 passes-spec =

@@ -3,8 +3,7 @@ use mathlib.Core.Path.{sym, _∙_}
 use mathlib.Core.List.{[], _∷_}
 use borrow.Author.Needs.{needs}
 use Rattle.lists.specs.Tests.{each-of}
-use Rattle.saturation_protector_buffer.specs.Ring.{capacity}
-use Rattle.saturation_protector_buffer.specs.Calls.{comparedOf}
+use Rattle.saturation_protector_buffer.specs.Calls.{compared}
 use Rattle.saturation_protector_buffer.specs.Laws.Passing.{within}
 use Rattle.saturation_protector_buffer.proofs.Ring.equals.Statement.{statement}
 use Rattle.saturation_protector_buffer.proofs.Ring.equals.Tie as tie
@@ -24,16 +23,16 @@ same-items-requires c κs =
     let two = c .before .before .passes2 in
     let at = c .before .before .before .before .args in
     let ok = each-of (one .result ∷ two .result ∷ []) (c .if1 .taken) in
-    (within capacity (at .self) (sym (one .ensures) ∙ ok 0), within capacity (at .other) (sym (two .ensures) ∙ ok 1))
+    (within (at .self) (sym (one .ensures) ∙ ok 0), within (at .other) (sym (two .ensures) ∙ ok 1))
 
 returns : tie.Need-returns
-unfolding comparedOf
+unfolding compared
 returns c =
     let tests = c .before .before in
     rw (c .same-items .ensures, tests .refusal .ensures, ← tests .before .before .passes .ensures, ← tests .before .passes2 .ensures, c .before .if1 .taken)
 
 returns-2 : tie.Need-returns-2
-unfolding comparedOf
+unfolding compared
 returns-2 c =
     let tests = c .before in
     rw (tests .refusal .ensures, ← tests .before .before .passes .ensures, ← tests .before .passes2 .ensures, c .if1 .left)

@@ -1,8 +1,7 @@
 -- `saturation_protector_buffer::Ring::front` meets its contract. Assumes nothing.
 use mathlib.Core.Path.{sym, _∙_}
 use borrow.Author.Needs.{needs}
-use Rattle.saturation_protector_buffer.specs.Ring.{capacity}
-use Rattle.saturation_protector_buffer.specs.Calls.{told, frontedOf}
+use Rattle.saturation_protector_buffer.specs.Calls.{told, fronted}
 use Rattle.saturation_protector_buffer.specs.Laws.Passing.{within}
 use Rattle.saturation_protector_buffer.proofs.Ring.front.Statement.{statement}
 use Rattle.saturation_protector_buffer.proofs.Ring.front.Tie as tie
@@ -15,16 +14,16 @@ refusal-requires c κs = search needs
 
 oldest-requires : tie.Need-oldest-requires
 oldest-requires c κs =
-    within capacity (c .before .before .before .args .self) (sym (c .before .before .passes .ensures) ∙ c .if1 .taken)
+    within (c .before .before .before .args .self) (sym (c .before .before .passes .ensures) ∙ c .if1 .taken)
 
 returns : tie.Need-returns
-unfolding told frontedOf
+unfolding told fronted
 returns c =
     let tests = c .before .before in
     rw (c .oldest .ensures, tests .refusal .ensures, ← tests .before .passes .ensures, c .before .if1 .taken)
 
 returns-2 : tie.Need-returns-2
-unfolding told frontedOf
+unfolding told fronted
 returns-2 c =
     let tests = c .before in
     rw (tests .refusal .ensures, ← tests .before .passes .ensures, c .if1 .left)

@@ -7,9 +7,6 @@ use Rattle.saturation_protector_buffer.proofs.Ring.front_index.Tie as t
 cast-pick-usize : tie.Need-cast-pick-usize
 cast-pick-usize c = search needs
 
-cast-pick-usize-2 : tie.Need-cast-pick-usize-2
-cast-pick-usize-2 c = search needs
-
 pick-usize-requires : tie.Need-pick-usize-requires
 pick-usize-requires c κs = search needs
 
@@ -18,4 +15,4 @@ unfolding start
 returns c = rw (c .pick-usize .ensures)
 
 pub front-index-spec : {M : Type 1} → statement M
-front-index-spec = tie.close (tie.spec cast-pick-usize cast-pick-usize-2 pick-usize-requires returns)
+front-index-spec = tie.close (tie.spec cast-pick-usize pick-usize-requires returns)

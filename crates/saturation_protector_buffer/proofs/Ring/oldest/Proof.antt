@@ -4,17 +4,19 @@ use Prim.Native.Nat.{_<_}
 use native.Mathlib.Omega.{arith}
 use lib.ListN.{length}
 use borrow.Author.Needs.{needs}
-use Rattle.saturation_protector_buffer.specs.Ring.{capacity, storage, said}
+use Rattle.saturation_protector_buffer.specs.Ring.{largest, said}
 use Rattle.saturation_protector_buffer.specs.Laws.Places.{start-inside}
 use Rattle.saturation_protector_buffer.specs.Laws.Front.{oldest-stored, oldest-none}
 use Rattle.saturation_protector_buffer.proofs.Ring.oldest.Statement.{statement}
 use Rattle.saturation_protector_buffer.proofs.Ring.oldest.Tie as tie
 
 -- the front index lies inside the storage
-inside : (c : tie.After-front-index) → c .front-index .result < capacity
+inside : (c : tie.After-front-index) → c .front-index .result < largest
 inside c =
     let start = c .before .before in
-    rw (c .front-index .ensures) (start-inside capacity (start .args .self .place) (start .args .self .size) (start .pre .place) (start .pre .size))
+    let r = start .args .self in
+    let below = start-inside (r .capacity) (r .place) (r .size) (start .pre .place) (start .pre .size) in
+    rw (c .front-index .ensures) (omega (arith, below, start .pre .capacity))
 
 front-index-requires : tie.Need-front-index-requires
 front-index-requires c κs = search needs
@@ -29,12 +31,12 @@ returns : tie.Need-returns
 unfolding said
 returns c =
     let start = c .before .before .before in
-    let slots : length (start .args .self .stored) ≡ storage = search needs in
-    rw (c .before .front-index .ensures) (sym (oldest-stored capacity (start .args .self) (omega arith) (start .pre) (omega arith)))
+    let slots : length (start .args .self .stored) ≡ largest = search needs in
+    rw (c .before .front-index .ensures) (sym (oldest-stored (start .args .self) (omega (arith, start .pre .capacity)) (start .pre) (omega arith)))
 
 returns-2 : tie.Need-returns-2
 unfolding said
-returns-2 c = sym (oldest-none capacity (c .before .before .before .args .self) (c .if1 .left))
+returns-2 c = sym (oldest-none (c .before .before .before .args .self) (c .if1 .left))
 
 pub oldest-spec : {M : Type 1} → statement M
 oldest-spec = tie.close (tie.spec front-index-requires mul-t7 array-read-t10 returns returns-2)

@@ -1,6 +1,6 @@
 -- `saturation_protector_buffer::Ring::size` meets its contract. Assumes nothing.
 use borrow.Author.Needs.{needs}
-use Rattle.saturation_protector_buffer.specs.Calls.{sizedOf}
+use Rattle.saturation_protector_buffer.specs.Calls.{sized}
 use Rattle.saturation_protector_buffer.proofs.Ring.size.Statement.{statement}
 use Rattle.saturation_protector_buffer.proofs.Ring.size.Tie as tie
 
@@ -17,7 +17,7 @@ pick-usize-requires : tie.Need-pick-usize-requires
 pick-usize-requires c κs = search needs
 
 returns : tie.Need-returns
-unfolding sizedOf
+unfolding sized
 returns c = rw (c .pick-usize .ensures, c .before .before .refusal .ensures, c .before .before .before .passes .ensures)
 
 pub size-spec : {M : Type 1} → statement M

@@ -1,6 +1,6 @@
 -- `saturation_protector_buffer::Ring::store` meets its contract. Assumes nothing.
 use borrow.Author.Needs.{needs}
-use Rattle.saturation_protector_buffer.specs.Ring.{pushOf}
+use Rattle.saturation_protector_buffer.specs.Ring.{push}
 use Rattle.saturation_protector_buffer.proofs.Ring.store.Statement.{statement}
 use Rattle.saturation_protector_buffer.proofs.Ring.store.Tie as tie
 
@@ -16,14 +16,8 @@ array-write-stored c = search needs
 add-after : tie.Need-add-after
 add-after c = search needs
 
-cast-pick-u32 : tie.Need-cast-pick-u32
-cast-pick-u32 c = search needs
-
 pick-u32-requires : tie.Need-pick-u32-requires
 pick-u32-requires c κs = search needs
-
-cast-pick-u32-2 : tie.Need-cast-pick-u32-2
-cast-pick-u32-2 c = search needs
 
 add-pick-u32 : tie.Need-add-pick-u32
 add-pick-u32 c = search needs
@@ -32,7 +26,7 @@ pick-u32-requires-2 : tie.Need-pick-u32-requires-2
 pick-u32-requires-2 c κs = search needs
 
 returns : tie.Need-returns
-unfolding pushOf
+unfolding push
 returns c = rw (c .pick-u322 .ensures, c .before .pick-u32 .ensures)
 
 pub store-spec : {M : Type 1} → statement M
@@ -43,9 +37,7 @@ store-spec =
     mul-stored
     array-write-stored
     add-after
-    cast-pick-u32
     pick-u32-requires
-    cast-pick-u32-2
     add-pick-u32
     pick-u32-requires-2
     returns)
