@@ -70,11 +70,39 @@ told "the meter's words beside a strip" "--threshold is the meter's, and the str
 told "a word of the meter that is no number" "--noise wants a number, and 'loud' is none" recording --noise loud "$room/in.wav" "$room/out.wav"
 run recording --threshold 3001 "$room/in.wav" "$room/out.wav"
 same "level: a word of the meter that is out of its range" "2 meter: --threshold 3001 is not a whole number from 1 to 3000" "$ended $(cat "$room/err")"
+service=examples/service.strip
+for verb in "strip $service" "recording $room/in.wav $room/out.wav"; do
+    told "${verb%% *}: a ring that is missing" "--ring wants a number from 1 to 16" $verb --ring
+    for n in 0 17 4x 016 -1 ''; do told "${verb%% *}: a ring of '$n'" "--ring wants a number from 1 to 16, and '$n' is none" ${verb%% *} --ring "$n" ${verb#* }; done
+done
+told "a word of strip that is none" "'--rings' is no word of ./level strip" strip --rings 4 $service
+same "level: two strips end with status 2" 2 "$(status strip $service $service)"
 told "a word that is none" "'--loud' is no word of ./level recording" recording --loud "$room/in.wav" "$room/out.wav"
 
 # ---- nothing is lost in silence
-service=examples/service.strip
 same "level: a service ends with status 0" 0 "$(status strip $service)"
+
+# ---- the ring
+tests/strips/echo >"$room/echo.strip"
+for n in 1 4 16; do
+    ./level strip --ring $n "$room/echo.strip" >"$room/ring-$n" 2>"$room/err"
+    same "level: a ring of $n: status 0 and no message" "0 " "$? $(cat "$room/err")"
+done
+same "level: the lines of a ring of 1, of 4 and of 16 are the Rust's" "$(cat tests/strips/echo.sha256)" \
+    "$(for n in 1 4 16; do echo "$(sha256sum <"$room/ring-$n" | head -c 64) $n"; done)"
+./level strip "$room/echo.strip" >"$room/got"
+same_file "level: without the word the ring holds 4" "$room/ring-4" "$room/got"
+tests/wav-maker --rate 4000 --samples 29640 --loud 300 --seed 6 >"$room/echo.wav"
+for n in 4 16; do ./level recording --ring $n --strip "$room/echo.strip" "$room/echo.wav" "$room/ring-$n.wav" 2>/dev/null; done
+./level recording --strip "$room/echo.strip" --ring 16 "$room/echo.wav" "$room/16.wav" 2>/dev/null
+./level recording --strip "$room/echo.strip" "$room/echo.wav" "$room/out.wav" 2>/dev/null
+same_file "level: a recording without the word is one with a ring of 4" "$room/ring-4.wav" "$room/out.wav"
+same_file "level: the word may stand behind the strip" "$room/ring-16.wav" "$room/16.wav"
+same "level: a ring of 4 drops its first peak with frame 205 of a recording, and one of 16 with frame 697: they differ between the two" 1 \
+    "$(cmp "$room/ring-4.wav" "$room/ring-16.wav" | sed 's/.*byte \([0-9]*\),.*/\1/' | awk '{ print ($1 - 45 >= 204 * 80 && $1 - 45 < 696 * 80) + 0 }')"
+cp "$room/echo.strip" "$room/--ring"
+(cd "$room" && "$OLDPWD/level" recording --strip --ring echo.wav out.wav) 2>/dev/null
+same_file "level: a strip may have the name --ring" "$room/ring-4.wav" "$room/out.wav"
 { printf '\x00\x18\x01\x0c\x00\x28' && head -c 26 $service | tail -c 20; } >"$room/long.strip"
 for _ in {1..200}; do tail -c +27 $service; done >>"$room/long.strip"
 LC_ALL=xx_XX.UTF-8 ./level strip $service >"$room/got" 2>/dev/null

@@ -49,6 +49,26 @@ same "recording: it ends with status 0" 0 $?
 same_file "recording: the stored WAV file" crates/recording/stdout "$room/got"
 same "recording: nothing is told, and 0 is said at the end" " 0" "$(cat "$room/err") $(cat "$room/end")"
 
+# How many peaks the protector remembers. The headroom falls with the frame that takes the first push out of the ring: in a ring of
+# 1 that is frame 82 of tests/strips/echo, in one of 4 frame 205, and in one of 16 frame 697. The gain follows the headroom, and a
+# sample the gain, some frames later.
+tests/strips/echo >"$room/echo.strip"
+wav --rate 4000 --samples 29640 --loud 300 --seed 6 >"$room/echo.wav"
+for n in 1 4 16; do
+    kept --ring $n "$room/echo.strip" <"$room/echo.wav"
+    same "recording: a ring of $n: nothing is told, and 0 is said at the end" " 0" "$(cat "$room/err") $(cat "$room/end")"
+    mv "$room/got" "$room/ring-$n"
+done
+kept "$room/echo.strip" <"$room/echo.wav"
+same_file "recording: without the words the ring holds 4" "$room/ring-4" "$room/got"
+kept --ring 16 "$room/echo.strip" "$room/named.wav" <"$room/echo.wav"
+same_file "recording: with the words the output may be named too" "$room/ring-16" "$room/named.wav"
+unlike_from() { # FILE FILE FRAME END: whether the first frame that differs is from one on, and before another
+    cmp "$1" "$2" | sed 's/.*byte \([0-9]*\),.*/\1/' | awk -v from="$3" -v end="$4" '{ at = int(($1 - 45) / 80) + 1; print (from <= at && at < end) ? "yes" : at }'
+}
+same "recording: rings of 1 and of 4, and of 4 and of 16, differ where the smaller one has dropped the first push, and the other has not" "yes yes" \
+    "$(unlike_from "$room/ring-1" "$room/ring-4" 82 205) $(unlike_from "$room/ring-4" "$room/ring-16" 205 697)"
+
 # What is refused: one line each, and not a byte of a recording.
 refuses() { # NAME LINE WORDS..: the file is standard input
     local name=$1 line
@@ -61,8 +81,12 @@ refuses() { # NAME LINE WORDS..: the file is standard input
 }
 good=$room/good.wav
 wav --samples 4800 >"$good"
-words="it takes the path of a strip, and may take that of the levelled file: recording STRIP [OUT] < in.wav"
+words="it takes the path of a strip, and may take that of the levelled file: recording [--ring N] STRIP [OUT] < in.wav"
 refuses "three words" "$words" "$room/480.strip" "$room/out.wav" more <"$good"
+refuses "a ring and no strip" "$words" --ring 4 <"$good"
+refuses "a ring and three words" "$words" --ring 4 "$room/480.strip" "$room/out.wav" more <"$good"
+for n in 0 17 016 4x -1 ''; do refuses "a ring of '$n'" "--ring wants a number from 1 to 16" --ring "$n" "$room/480.strip" <"$good"; done
+refuses "a ring without its number" "--ring wants a number from 1 to 16" --ring <"$good"
 refuses "four words" "$words" "$room/480.strip" "$room/out.wav" more more <"$good"
 same "recording: too many words: no output is made" no "$([ -e "$room/out.wav" ] && echo yes || echo no)"
 refuses "no such strip" "the strip: No such file or directory" "$room/nothing" <"$good"

@@ -10,7 +10,7 @@ room=$(mktemp -d)
 trap 'rm -rf "$room"' EXIT
 
 mapfile -t words < <(tests/run-program --words strip)
-run() { "${words[@]}"; }
+run() { "${words[@]}" "$@"; }
 
 # The strip that document 01 works on paper, and its output, which is printed there; and its twin in version 2.
 paper=tests/strips/paper.strip
@@ -88,6 +88,24 @@ tests/strips/waits strip gap >"$room/waits.strip"
 tests/strips/waits lines gap >"$room/due"
 run <"$room/waits.strip" >"$room/got"
 same_file "strip: with a T of 3,000, a gap after 2,999 frames and 2,999 frames after it, each line to the byte" "$room/due" "$room/got"
+
+# The ring: how many peaks the protector remembers. The headroom falls with the frame that takes the first push out.
+tests/strips/echo >"$room/echo.strip"
+for n in {1..16}; do
+    run --ring "$n" <"$room/echo.strip" >"$room/ring-$n" 2>"$room/err" 3>"$room/reply"
+    same "strip: a ring of $n: 741 lines and no message, and the headroom falls for the first time with line $((41 * (n + 1)))" "741 $((41 * (n + 1))) 0" \
+        "$(wc -l <"$room/ring-$n") $(awk 'NR > 1 && $4 < last && !fell { fell = $1 } { last = $4 } END { print fell }' "$room/ring-$n") $(cat "$room/reply")$(cat "$room/err")"
+done
+run <"$room/echo.strip" >"$room/got"
+same_file "strip: without the word the ring holds 4" "$room/ring-4" "$room/got"
+same "strip: the lines of a ring of 1, of 4 and of 16 are the Rust's" "$(cat tests/strips/echo.sha256)" \
+    "$(for n in 1 4 16; do echo "$(sha256sum <"$room/ring-$n" | head -c 64) $n"; done)"
+for asked in "--ring" "--ring 0" "--ring 17" "--ring 4x" "--ring 016" "--ring -1" "--ring 4 4" "4" "--rings 4" "-ring 4"; do
+    # shellcheck disable=SC2086
+    run $asked <"$paper" >"$room/got" 2>"$room/err" 3>"$room/reply"
+    same "strip: the words '$asked': a line says what it takes, and nothing is printed" \
+        "strip: it may take the words --ring N, with N from 1 to 16: strip [--ring N] < FILE.strip  " "$(cat "$room/err") $(cat "$room/got") $(cat "$room/reply")"
+done
 
 # The last act is to write the reply to descriptor 3, with no line end: the number of the refusal in the last line, and 0 where
 # there is none. Nothing is written there where a read or a write failed.

@@ -1,6 +1,7 @@
 // Levels a recording: reads a WAV file of 16-bit samples from standard input, and for each 10 ms the figures in the strip
 // that the first word names, and the gaps before them, and writes the levelled WAV file to standard output, or to the file
-// that a second word names. Whatever ends it before is told on standard error, and so is each minute.
+// that a second word names. The words `--ring N` before them say how many peaks the protector remembers, 1 to 16; without
+// them it is 4. Whatever ends it before is told on standard error, and so is each minute.
 //
 // Without a word it meters the WAV file: to standard output it writes twelve bytes, and then twelve for each 10 ms, as the
 // crate `loudness` has them.
@@ -28,18 +29,30 @@ use recording_run::levelling::after_write;
 use recording_run::strip::Source;
 use recording_run::wave::Search;
 use recording_run::wave::Stage;
+use ring_word::Asked;
+use ring_word::ring_asked;
+use std::num::wrapping_add_usize;
+use std::num::wrapping_sub_usize;
 use strip::draw_next;
 use strip_format::Head;
 use strip_reader::Got;
 use units::replies::DONE;
+use units::replies::SHAPE;
 use wav_format::head::LONGEST_HEAD;
 use wave::find;
+
+// What the command asks for: the strip, the number of the word that may name the output, and how many peaks the protector
+// remembers.
+struct Wish {
+    strip: i32,
+    output: usize,
+    capacity: u32,
+}
 
 // Levels the samples that were found, whose chunk says this size: the head of the levelled file, then the frames. The output
 // is opened once there is a head to write.
 fn with_samples(
-    strip: i32,
-    named: bool,
+    wish: Wish,
     block: &mut [u8],
     source: Source,
     head: Head,
@@ -49,6 +62,7 @@ fn with_samples(
     let mut bytes = [0u8; LONGEST_HEAD];
     let begun = recording_run::levelling::begin(
         head,
+        wish.capacity,
         search.channels,
         search.samples,
         search.mask,
@@ -56,10 +70,10 @@ fn with_samples(
         &mut bytes,
     );
     if begun.reply == DONE {
-        let out = output::open(named);
+        let out = output::open(wish.output);
         if 0 <= out {
             let desk = Desk {
-                strip,
+                strip: wish.strip,
                 out,
                 channels: search.channels,
                 samples: search.samples,
@@ -71,20 +85,23 @@ fn with_samples(
             let both = Both { run, source };
             told::at_end(level(desk, block, both));
         }
-    } else {
+    } else if begun.reply == SHAPE {
         told::samples_differ(head.samples, search.samples);
+    } else {
+        told::refused(begun.reply, 0);
+        told::at_end(of_refusal(begun.reply));
     }
 }
 
 // Levels the samples that were found with a strip. The first that comes out of it is its head, or a refusal, or nothing
 // where a read failed, which was told.
-fn with_strip(strip: i32, named: bool, search: Search, size: u32) {
+fn with_strip(wish: Wish, search: Search, size: u32) {
     let mut block = io::buffer();
-    let drawn = draw_next(strip, &mut block, recording_run::strip::begin());
+    let drawn = draw_next(wish.strip, &mut block, recording_run::strip::begin());
     let got = drawn.got;
     let source = drawn.source;
     match got {
-        Got::Head(head) => with_samples(strip, named, &mut block, source, head, search, size),
+        Got::Head(head) => with_samples(wish, &mut block, source, head, search, size),
         Got::Refused(reply) => {
             told::refused(reply, 0);
             told::at_end(of_refusal(reply));
@@ -95,20 +112,20 @@ fn with_strip(strip: i32, named: bool, search: Search, size: u32) {
 
 // Levels the recording. A search that is over has found samples, or is told. It comes before the first look at the strip, which
 // a meter may still be making of the same sound.
-fn with_sound(strip: i32, named: bool) {
+fn with_sound(wish: Wish) {
     let search = find();
     let stage = search.stage;
     match stage {
         Stage::Start | Stage::Chunk | Stage::Format(_) | Stage::Skip(_) => {}
-        Stage::Samples(size) => with_strip(strip, named, search, size),
+        Stage::Samples(size) => with_strip(wish, search, size),
         Stage::Over(fault) => told::of_search(fault),
     }
 }
 
-// Opens the strip that the first word names. Where that fails the answer is below 0.
-fn open_strip() -> i32 {
+// Opens the strip that the word of this number names. Where that fails the answer is below 0.
+fn open_strip(word: usize) -> i32 {
     let mut path = io::buffer();
-    let n = os::arg(1, &mut path);
+    let n = os::arg(word, &mut path);
     if os::errno() == 0 {
         os::open_read(&path[..n])
     } else {
@@ -127,20 +144,42 @@ fn without_strip() {
     }
 }
 
+// What the words ask for of the ring.
+fn asked() -> Asked {
+    let mut first = io::buffer();
+    let mut second = io::buffer();
+    let n = os::arg(1, &mut first);
+    let m = os::arg(2, &mut second);
+    ring_asked(&first[..n], &second[..m])
+}
+
+// Levels the recording with the strip that the word of this number names. The word after it may name the output.
+fn with_words(from: usize, capacity: u32) {
+    let strip = open_strip(from);
+    if 0 <= strip {
+        with_sound(Wish {
+            strip,
+            output: wrapping_add_usize(from, 1),
+            capacity,
+        });
+    } else {
+        os::fail(b"recording: the strip");
+    }
+}
+
 fn main() {
-    let words = os::arg_count();
-    if words <= 1 {
+    let count = os::arg_count();
+    let ring = asked();
+    let behind = wrapping_sub_usize(count, ring.from);
+    if count <= 1 {
         without_strip();
-    } else if words <= 3 {
-        let strip = open_strip();
-        if 0 <= strip {
-            with_sound(strip, words == 3);
-        } else {
-            os::fail(b"recording: the strip");
-        }
+    } else if !ring.ok {
+        told::tell(b"recording: --ring wants a number from 1 to 16\n");
+    } else if (behind == 1) | (behind == 2) {
+        with_words(ring.from, ring.capacity);
     } else {
         told::tell(
-            b"recording: it takes the path of a strip, and may take that of the levelled file: recording STRIP [OUT] < in.wav\n",
+            b"recording: it takes the path of a strip, and may take that of the levelled file: recording [--ring N] STRIP [OUT] < in.wav\n",
         );
     }
 }

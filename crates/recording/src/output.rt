@@ -3,11 +3,11 @@
 use crate::input::within;
 use crate::told;
 
-// Opens the file that the second word names, for the bytes that are to come in the place of its own. Where that fails it is
-// told, and the answer is below 0.
-fn open_named() -> i32 {
+// Opens the file that the word of this number names, for the bytes that are to come in the place of its own. Where that
+// fails it is told, and the answer is below 0.
+fn open_named(word: usize) -> i32 {
     let mut path = io::buffer();
-    let n = os::arg(2, &mut path);
+    let n = os::arg(word, &mut path);
     if os::errno() == 0 {
         os::open_overwrite(&path[..n])
     } else {
@@ -15,11 +15,11 @@ fn open_named() -> i32 {
     }
 }
 
-// Opens the output: the file that is named, or standard output. A program that was started without standard error would
-// write into the file what it tells, so it takes no file in the place of that.
-pub(crate) fn open(named: bool) -> i32 {
-    if named {
-        let out = open_named();
+// Opens the output: the file that the word of this number names, or standard output where there is no such word. A program
+// that was started without standard error would write into the file what it tells, so it takes no file in the place of that.
+pub(crate) fn open(word: usize) -> i32 {
+    if word < os::arg_count() {
+        let out = open_named(word);
         if out < 0 {
             os::fail(b"recording: the output");
             out

@@ -44,14 +44,18 @@ pub record Beginning : Type 0 where
   pub begun : Begun
   pub out : List ℕ
 
-unfoldable pub begun : Head → ℕ → ℕ → ℕ → ℕ → List ℕ → Beginning
-begun head channels samples mask size out =
+-- 1 for samples that are not the recording's comes before what the chain refuses, which is 4 for the capacity of its rings, and that before what the head is
+-- refused with
+unfoldable pub begun : Head → ℕ → ℕ → ℕ → ℕ → ℕ → List ℕ → Beginning
+begun head capacity channels samples mask size out =
     let extent = extentOf size channels in
     let written = putHead channels samples mask (extent .size) out in
-    let chain = made (head .settings) (head .threshold) (head .samples) .chain in
-    let run : Run = record { chain = chain; number = 1; frames = 0; left = extent .left; more = true; well = true; refused = 0 } in
+    let new = made (head .settings) (head .threshold) (head .samples) capacity in
+    let run : Run = record { chain = new .chain; number = 1; frames = 0; left = extent .left; more = true; well = true; refused = 0 } in
     cond (eqb samples (head .samples))
+    (cond (eqb (new .reply) done)
     (record { begun = record { reply = written .reply; head = headLength mask; run = run }; out = written .out })
+    (record { begun = record { reply = new .reply; head = headLength mask; run = run }; out = out }))
     (record { begun = record { reply = badShape; head = headLength mask; run = run }; out = out })
 
 -- ---- a frame is heard

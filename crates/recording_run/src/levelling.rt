@@ -131,22 +131,24 @@ pub fn frame_bytes(channels: usize, samples: usize) -> usize
     }
 }
 
-// Begins a run with the head of a strip and samples of this format and mask, whose chunk says this size: the head of the
-// levelled file in the first bytes of a lent buffer, and a new chain. Refused with 1 where the strip is for another number
-// of samples, and with what the head is refused with; nothing is written then.
+// Begins a run with the head of a strip, the number of peaks that the protector remembers, and samples of this format and
+// mask, whose chunk says this size: the head of the levelled file in the first bytes of a lent buffer, and a new chain.
+// Refused with 1 where the strip is for another number of samples, with 4 where the capacity is not from 1 to 16, and with
+// what the head is refused with; nothing is written then.
 pub fn begin(
     head: Head,
+    capacity: u32,
     channels: usize,
     samples: usize,
     mask: u32,
     size: u32,
     out: &mut [u8],
 ) -> Begun
-    ensures { λ r. ⌜ r ≡ begun head channels samples mask size (now (out .entry)) .begun ⌝ }
-    ensures { λ _. ⌜ now (out .exit) ≡ begun head channels samples mask size (now (out .entry)) .out ⌝ }
+    ensures { λ r. ⌜ r ≡ begun head capacity channels samples mask size (now (out .entry)) .begun ⌝ }
+    ensures { λ _. ⌜ now (out .exit) ≡ begun head capacity channels samples mask size (now (out .entry)) .out ⌝ }
 {
     let settings = head.settings;
-    let made = Chain::new(settings, head.threshold, head.samples);
+    let made = Chain::new(settings, head.threshold, head.samples, capacity);
     let chain = made.chain;
     let extent = extent_of(size, channels);
     let long = head_bytes(mask);
@@ -160,10 +162,18 @@ pub fn begin(
         refused: 0,
     };
     if samples == head.samples {
-        Begun {
-            reply: write_head(channels, samples, mask, extent.size, out),
-            head: long,
-            run,
+        if made.reply == DONE {
+            Begun {
+                reply: write_head(channels, samples, mask, extent.size, out),
+                head: long,
+                run,
+            }
+        } else {
+            Begun {
+                reply: made.reply,
+                head: long,
+                run,
+            }
         }
     } else {
         Begun {

@@ -1,5 +1,6 @@
 // Reads a strip from standard input, runs a new chain over it, and prints a line for each record as soon as it came:
-// strip_run says which. A read that fails and output that cannot be written end the run with a message on standard
+// strip_run says which. The words `--ring N` say how many peaks the protector remembers, 1 to 16; without them it is 4.
+// A read that fails and output that cannot be written end the run with a message on standard
 // error. Otherwise the last that it does is to write the reply's number to descriptor 3, in decimal and with no line end: 0
 // where the strip was read to its end, and else the number of the refusal. So whoever opens that descriptor knows that all
 // lines were written; where it is closed, nothing is told.
@@ -7,6 +8,8 @@
 // The memory is fixed: a strip of any length goes through.
 
 ghost use Rattle.io.specs.Counts.{Counts};
+use ring_word::Asked;
+use ring_word::ring_asked;
 use strip_run::Run;
 use strip_run::Verdict;
 use strip_run::verdict_of;
@@ -73,12 +76,12 @@ fn tell(verdict: Verdict) {
     }
 }
 
-// Takes the blocks one after the other. A proved loop has to end, so it counts its turns down, from a number that no
-// run uses up.
-fn main() {
+// Runs the strip with rings of this capacity: takes the blocks one after the other. A proved loop has to end, so it counts
+// its turns down, from a number that no run uses up.
+fn run_strip(capacity: u32) {
     let mut block = [0u8; BLOCK];
     let mut out = io::large_buffer();
-    let mut run = Run::new();
+    let mut run = Run::new(capacity);
     let mut read = true;
     let mut written = true;
     let mut more = true;
@@ -100,4 +103,25 @@ fn main() {
     }
     let closed = close_output(read & written);
     tell(verdict_of(run, read, written, closed));
+}
+
+// What the words ask for.
+fn asked() -> Asked {
+    let mut first = io::buffer();
+    let mut second = io::buffer();
+    let n = os::arg(1, &mut first);
+    let m = os::arg(2, &mut second);
+    ring_asked(&first[..n], &second[..m])
+}
+
+fn main() {
+    let wish = asked();
+    if wish.ok & (os::arg_count() <= wish.from) {
+        run_strip(wish.capacity);
+    } else {
+        io::write_all(
+            libc::STDERR_FILENO,
+            b"strip: it may take the words --ring N, with N from 1 to 16: strip [--ring N] < FILE.strip\n",
+        );
+    }
 }

@@ -66,14 +66,14 @@ line-left n bytes out end line l e f h = go (eqb n done) refl
 
 pub refuse-is : (d : Desk) (reply : ℕ) (out end : List ℕ) (line : Put.Line) → longest ≤ length out → line ≡ Putting.lineOf (Putting.putRefusalLine (d .number) reply out) (refusalLine (d .number) reply)
     → end ≡ Putting.putRefusalLine (d .number) reply out .out
-    → Prints (refusedAt d reply) out (record { desk = record { chain = d .chain; number = d .number; more = false; reply = reply }; length = line .length }) end
+    → Prints (refusedAt d reply) out (record { desk = record { chain = d .chain; capacity = d .capacity; number = d .number; more = false; reply = reply }; length = line .length }) end
 unfolding refusedAt Putting.putRefusalLine Putting.lineOf
 refuse-is d reply out end line room e f =
     let fits = le-leb (length (refusalLine (d .number) reply)) (length out) (omega (arith, refusal-line-fits (d .number) reply)) in
     (rw (e, fits), f ∙ rw fits)
 
 -- ---- a head
-taken-with : (d : Desk) (m : Made) → m .reply ≡ done → unchanged (record { chain = m .chain; number = after (d .number); more = true; reply = d .reply }) ≡ begunWith d m
+taken-with : (d : Desk) (m : Made) → m .reply ≡ done → unchanged (record { chain = m .chain; capacity = d .capacity; number = after (d .number); more = true; reply = d .reply }) ≡ begunWith d m
 unfolding begunWith
 taken-with d m k = sym (rw k refl)
 
@@ -81,16 +81,16 @@ refused-with : (d : Desk) (m : Made) → (m .reply ≡ done → ⊥) → refused
 unfolding begunWith
 refused-with d m n = sym (rw (ne-eqb (m .reply) done n) refl)
 
-module _ (d : Desk) (h : Head) (m : Made) (e : m ≡ made (h .settings) (h .threshold) (h .samples)) where
+module _ (d : Desk) (h : Head) (m : Made) (e : m ≡ made (h .settings) (h .threshold) (h .samples) (d .capacity)) where
   begun-is : begunWith d m ≡ begun d h
   unfolding begun
   begun-is = ap (begunWith d) e
 
   pub begun-done : (n : ℕ) (out : List ℕ) → n ≡ after (d .number) → m .reply ≡ done
-      → Prints (begun d h) out (record { desk = record { chain = m .chain; number = n; more = true; reply = d .reply }; length = 0 }) out
+      → Prints (begun d h) out (record { desk = record { chain = m .chain; capacity = d .capacity; number = n; more = true; reply = d .reply }; length = 0 }) out
   begun-done n out w k =
-      moved (unchanged (record { chain = m .chain; number = after (d .number); more = true; reply = d .reply })) (begun d h) out _ out (taken-with d m k ∙ begun-is)
-      (ap {B = Line} (λ (i : ℕ). record { desk = record { chain = m .chain; number = i; more = true; reply = d .reply }; length = 0 }) w, refl)
+      moved (unchanged (record { chain = m .chain; capacity = d .capacity; number = after (d .number); more = true; reply = d .reply })) (begun d h) out _ out (taken-with d m k ∙ begun-is)
+      (ap {B = Line} (λ (i : ℕ). record { desk = record { chain = m .chain; capacity = d .capacity; number = i; more = true; reply = d .reply }; length = 0 }) w, refl)
 
   pub begun-refused : (m .reply ≡ done → ⊥) → refusedAt d (m .reply) ≡ begun d h
   begun-refused n = refused-with d m n ∙ begun-is
@@ -119,7 +119,7 @@ module _ (d : Desk) (c : Chain) (kind : ℕ) (p : Published) where
   pub lined-done : (n : ℕ) (out end : List ℕ) (line : Put.Line)
       → line ≡ Putting.lineOf (Putting.putRecordLine (d .number) kind (p .level .0) (p .headroom .0) (p .gain .0) (p .confident) out) (recordLine (d .number) kind (p .level .0) (p .headroom .0) (p .gain .0) (p .confident))
       → end ≡ Putting.putRecordLine (d .number) kind (p .level .0) (p .headroom .0) (p .gain .0) (p .confident) out .out → line .reply ≡ done → n ≡ after (d .number)
-      → Prints (lined d c kind p) out (record { desk = record { chain = c; number = n; more = true; reply = d .reply }; length = line .length }) end
+      → Prints (lined d c kind p) out (record { desk = record { chain = c; capacity = d .capacity; number = n; more = true; reply = d .reply }; length = line .length }) end
   unfolding lined Putting.putRecordLine
   lined-done n out end line e f k w =
       let q = line-put refused bytes out end line e f k in

@@ -26,12 +26,12 @@ use Rattle.strip_reader.specs.Feeding.{handedBy}
 use Rattle.strip_reader.specs.Telling.{Shown, unchanged, linesOf, deskOf}
 use Rattle.strip_run.specs.declared.Desk.{Desk}
 
--- ---- the desk: a chain, the number of what comes next, whether the run goes on, and the reply's number: of the refusal that ended the run, and 0 as
--- long as nothing is refused
+-- ---- the desk: a chain, the capacity of its rings, the number of what comes next, whether the run goes on, and the reply's number: of the refusal that
+-- ended the run, and 0 as long as nothing is refused
 -- before the head, whose number is 0, there is no chain yet: all its fields are 0
-unfoldable pub atStart : Desk
+unfoldable pub atStart : ℕ → Desk
 unfolding made unset
-atStart = record { chain = made unset 0 0 .chain; number = 0; more = true; reply = done }
+atStart capacity = record { chain = made unset 0 0 0 .chain; capacity = capacity; number = 0; more = true; reply = done }
 
 -- "number from 1": the number after another. It has 64 bits, and would roll over to 0
 abbrev pub after : ℕ → ℕ
@@ -41,16 +41,16 @@ after number = (number + 1) % 2 ^ 64
 -- "A refusal prints its record's number (0 for the head), R and the reply's number, and ends the run."
 unfoldable pub refusedAt : Desk → ℕ → Shown Desk
 unfolding refusalLine
-refusedAt d reply = record { desk = record { chain = d .chain; number = d .number; more = false; reply = reply }; line = refusalLine (d .number) reply }
+refusedAt d reply = record { desk = record { chain = d .chain; capacity = d .capacity; number = d .number; more = false; reply = reply }; line = refusalLine (d .number) reply }
 
--- ---- the head: "runs a new chain"
+-- ---- the head: "runs a new chain", with the capacity that the run was given
 unfoldable pub begunWith : Desk → Made → Shown Desk
 unfolding refusedAt
-begunWith d m = cond (eqb (m .reply) done) (unchanged (record { chain = m .chain; number = after (d .number); more = true; reply = d .reply })) (refusedAt d (m .reply))
+begunWith d m = cond (eqb (m .reply) done) (unchanged (record { chain = m .chain; capacity = d .capacity; number = after (d .number); more = true; reply = d .reply })) (refusedAt d (m .reply))
 
 unfoldable pub begun : Desk → Head → Shown Desk
 unfolding begunWith made
-begun d h = begunWith d (made (h .settings) (h .threshold) (h .samples))
+begun d h = begunWith d (made (h .settings) (h .threshold) (h .samples) (d .capacity))
 
 -- ---- a record
 -- "silent one-channel frames": n silent samples, of which a channel has at most 480
@@ -64,7 +64,7 @@ lined d c kind p =
     let refused = recordRefusal (p .level .0) (p .headroom .0) (p .gain .0) in
     cond (eqb refused done)
     (record {
-      desk = record { chain = c; number = after (d .number); more = true; reply = d .reply };
+      desk = record { chain = c; capacity = d .capacity; number = after (d .number); more = true; reply = d .reply };
       line = recordLine (d .number) kind (p .level .0) (p .headroom .0) (p .gain .0) (p .confident);
     })
     (refusedAt d refused)
@@ -106,19 +106,20 @@ shown d more = unchanged d
 shown d (head h) = begun d h
 shown d (entry (figures f)) = framed d f
 shown d (entry gap) = gapped d
-shown d end = unchanged (record { chain = d .chain; number = d .number; more = false; reply = d .reply })
+shown d end = unchanged (record { chain = d .chain; capacity = d .capacity; number = d .number; more = false; reply = d .reply })
 shown d (refused reply) = refusedAt d reply
 
 unfoldable pub told : Desk → Handed → Shown Desk
 unfolding shown
 told d h = cond (d .more) (shown d h) (unchanged d)
 
--- "The program `strip` reads one .., runs a new chain over silent one-channel frames, and prints for each record ..": the lines of a whole strip, in the version that it says
-unfoldable pub lines : List ℕ → List ℕ
+-- "The program `strip` reads one .., runs a new chain over silent one-channel frames, and prints for each record ..": the lines of a whole strip, in the version that it says,
+-- where the chain's rings have this capacity
+unfoldable pub lines : ℕ → List ℕ → List ℕ
 unfolding linesOf told atStart handedBy readStrip versionOf
-lines strip = linesOf told atStart (handedBy (readStrip (versionOf strip) strip))
+lines capacity strip = linesOf told (atStart capacity) (handedBy (readStrip (versionOf strip) strip))
 
 -- and its reply: 0 where it is read to its end, and otherwise the number of the refusal that ends it
-unfoldable pub replyOf : List ℕ → ℕ
+unfoldable pub replyOf : ℕ → List ℕ → ℕ
 unfolding deskOf told atStart handedBy readStrip versionOf
-replyOf strip = deskOf told atStart (handedBy (readStrip (versionOf strip) strip)) .reply
+replyOf capacity strip = deskOf told (atStart capacity) (handedBy (readStrip (versionOf strip) strip)) .reply

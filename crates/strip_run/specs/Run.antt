@@ -16,14 +16,14 @@ use Rattle.strip_run.specs.declared.Taken.{Taken}
 use Rattle.strip_run.specs.declared.Verdict.{Verdict}
 use Rattle.strip_run.specs.declared.Verdict.the-variants.{Nothing, Reply}
 
--- a run that has seen no byte
-unfoldable pub new : Run
+-- a run that has seen no byte, with the capacity of the rings of its chain
+unfoldable pub new : ℕ → Run
 unfolding fresh atStart
-new = record { reader = fresh; desk = atStart }
+new capacity = record { reader = fresh; desk = atStart capacity }
 
 -- a run that does not go on
 abbrev pub stopped : Run → Run
-stopped r = record { reader = r .reader; desk = record { chain = r .desk .chain; number = r .desk .number; more = false; reply = r .desk .reply } }
+stopped r = record { reader = r .reader; desk = record { chain = r .desk .chain; capacity = r .desk .capacity; number = r .desk .number; more = false; reply = r .desk .reply } }
 
 abbrev pub runOf : Ran Desk → Run
 runOf x = record { reader = x .reader; desk = x .desk }

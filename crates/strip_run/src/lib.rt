@@ -29,10 +29,11 @@ use units::settings::Settings;
 // The largest number of samples that a channel has.
 const SAMPLES: usize = 480;
 
-// The chain, the number of what comes next, 0 for the head, whether the run goes on, and the reply's number: of the refusal
-// that ended the run, and 0 as long as nothing is refused.
+// The chain, how many peaks its protector remembers, the number of what comes next, 0 for the head, whether the run goes on,
+// and the reply's number: of the refusal that ended the run, and 0 as long as nothing is refused.
 pub struct Desk {
     pub chain: Chain,
+    pub capacity: u32,
     pub number: u64,
     pub more: bool,
     pub reply: u32,
@@ -75,6 +76,7 @@ fn refuse(desk: Desk, reply: u32, out: &mut [u8]) -> Line
     Line {
         desk: Desk {
             chain,
+            capacity: desk.capacity,
             number: desk.number,
             more: false,
             reply,
@@ -130,6 +132,7 @@ fn publish(desk: Desk, chain: Chain, kind: Kind, out: &mut [u8]) -> Line
             Line {
                 desk: Desk {
                     chain,
+                    capacity: desk.capacity,
                     number: wrapping_add_u64(desk.number, 1),
                     more: true,
                     reply: desk.reply,
@@ -182,19 +185,20 @@ fn take_gap(desk: Desk, out: &mut [u8]) -> Line
     }
 }
 
-// Begins with a head: a new chain with its settings, and no line.
+// Begins with a head: a new chain with its settings and the run's capacity, and no line.
 fn begin(desk: Desk, head: Head, out: &mut [u8]) -> Line
     requires { ⌜ longest ≤ length (now out) ⌝ }
     ensures { λ r. ⌜ r ≡ lineOf (begun desk head) ⌝ }
     ensures { λ _. ⌜ now (out .exit) ≡ lineOut (begun desk head) (now (out .entry)) ⌝ }
 {
     let settings = head.settings;
-    let made = Chain::new(settings, head.threshold, head.samples);
+    let made = Chain::new(settings, head.threshold, head.samples, desk.capacity);
     if made.reply == DONE {
         let chain = made.chain;
         Line {
             desk: Desk {
                 chain,
+                capacity: desk.capacity,
                 number: wrapping_add_u64(desk.number, 1),
                 more: true,
                 reply: desk.reply,
@@ -222,6 +226,7 @@ fn show(desk: Desk, got: Got, out: &mut [u8]) -> Line
             Line {
                 desk: Desk {
                     chain,
+                    capacity: desk.capacity,
                     number: desk.number,
                     more: false,
                     reply: desk.reply,
@@ -290,6 +295,7 @@ fn finish(run: Run, out: &mut [u8]) -> Taken
             reader,
             desk: Desk {
                 chain,
+                capacity: last.capacity,
                 number: last.number,
                 more: false,
                 reply: last.reply,
@@ -314,17 +320,19 @@ pub fn verdict_of(run: Run, read: bool, written: bool, closed: bool) -> Verdict
 }
 
 impl Run {
-    // A run that has seen no byte of its strip.
-    pub fn new() -> Run
-        ensures { λ r. ⌜ r ≡ new ⌝ }
+    // A run that has seen no byte of its strip, and whose chain's protector will remember so many peaks. A capacity that
+    // is not from 1 to 16 is refused with 4 once the head is there.
+    pub fn new(capacity: u32) -> Run
+        ensures { λ r. ⌜ r ≡ new capacity ⌝ }
     {
         // There is no chain yet: one that is refused is all 0.
-        let made = Chain::new(Settings::unset(), 0, 0);
+        let made = Chain::new(Settings::unset(), 0, 0, 0);
         let chain = made.chain;
         Run {
             reader: Reader::new(),
             desk: Desk {
                 chain,
+                capacity,
                 number: 0,
                 more: true,
                 reply: DONE,

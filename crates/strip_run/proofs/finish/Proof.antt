@@ -25,7 +25,7 @@ same-length : tie.Need-same-length
 same-length c = search needs
 
 answer-is : (r : Run) (g : Handed) (line : Line) → g ≡ finished (r .reader) → line ≡ lineOf (told (r .desk) g)
-    → _≡_ {A = Taken} (record { reply = 0; run = record { reader = r .reader; desk = record { chain = line .desk .chain; number = line .desk .number; more = false; reply = line .desk .reply } }; length = line .length })
+    → _≡_ {A = Taken} (record { reply = 0; run = record { reader = r .reader; desk = record { chain = line .desk .chain; capacity = line .desk .capacity; number = line .desk .number; more = false; reply = line .desk .reply } }; length = line .length })
     (record { reply = 0; run = stopped (runOf (ended told (r .reader) (r .desk))); length = length (ended told (r .reader) (r .desk) .lines) })
 unfolding ended
 answer-is r g line e h = rw (h, e)

@@ -52,12 +52,12 @@ module _ (v : Version) (strip : List ℕ) (b : Bytes strip) (d : judged v strip 
   unfolding h es
   strip-is = ap (λ (g : Head). stripBytes g es) own ∙ strip-rewrites v strip b whole
 
-  -- What a strip is carried to prints the same lines,
-  pub carried-prints : lines (carriedBytes v strip) ≡ lines strip
+  -- What a strip is carried to prints the same lines, whatever the capacity of the rings,
+  pub carried-prints : (capacity : ℕ) → lines capacity (carriedBytes v strip) ≡ lines capacity strip
   unfolding carriedBytes h es
-  carried-prints = same-lines (other v) v h es in-other in-own ∙ ap lines strip-is
+  carried-prints capacity = same-lines capacity (other v) v h es in-other in-own ∙ ap (lines capacity) strip-is
 
   -- and has the same reply.
-  pub carried-replies : replyOf (carriedBytes v strip) ≡ replyOf strip
+  pub carried-replies : (capacity : ℕ) → replyOf capacity (carriedBytes v strip) ≡ replyOf capacity strip
   unfolding carriedBytes h es
-  carried-replies = same-reply (other v) v h es in-other in-own ∙ ap replyOf strip-is
+  carried-replies capacity = same-reply capacity (other v) v h es in-other in-own ∙ ap (replyOf capacity) strip-is

@@ -44,19 +44,21 @@ blocks-reply r ([] ∷ blocks) some = absurd (omega (arith, some .0))
 blocks-reply r ((b ∷ bs) ∷ blocks) some = blocks-reply (takenRun r (b ∷ bs)) blocks (some .1)
 
 -- Whatever the cutting into blocks, the lines are those of the whole strip.
-pub any-cutting-prints : (blocks : List (List ℕ)) → Each (λ (block : List ℕ). 0 < length block) blocks
-    → takenBlocks new blocks ≡ lines (whole blocks)
+pub any-cutting-prints : (capacity : ℕ) (blocks : List (List ℕ)) → Each (λ (block : List ℕ). 0 < length block) blocks
+    → takenBlocks (new capacity) blocks ≡ lines capacity (whole blocks)
 unfolding new fresh asked lines
-any-cutting-prints blocks some =
-    blocks-print new blocks some ∙ blocks-tell told told-more fresh atStart blocks some ∙ ap (linesOf told atStart) (any-cutting true One blocks)
+any-cutting-prints capacity blocks some =
+    let start = atStart capacity in
+    blocks-print (new capacity) blocks some ∙ blocks-tell told told-more fresh start blocks some ∙ ap (linesOf told start) (any-cutting true One blocks)
 
 -- And so is the reply.
-pub any-cutting-replies : (blocks : List (List ℕ)) → Each (λ (block : List ℕ). 0 < length block) blocks
-    → runAfter new blocks .desk .reply ≡ replyOf (whole blocks)
+pub any-cutting-replies : (capacity : ℕ) (blocks : List (List ℕ)) → Each (λ (block : List ℕ). 0 < length block) blocks
+    → runAfter (new capacity) blocks .desk .reply ≡ replyOf capacity (whole blocks)
 unfolding new fresh asked replyOf
-any-cutting-replies blocks some =
-    blocks-reply new blocks some
-    ∙ ap (λ (d : Desk). d .reply) (blocks-desk told told-more fresh atStart blocks some ∙ ap (deskOf told atStart) (any-cutting true One blocks))
+any-cutting-replies capacity blocks some =
+    let start = atStart capacity in
+    blocks-reply (new capacity) blocks some
+    ∙ ap (λ (d : Desk). d .reply) (blocks-desk told told-more fresh start blocks some ∙ ap (deskOf told start) (any-cutting true One blocks))
 
 -- ---- a run that has ended may stop there: whatever comes after it prints nothing, and leaves the reply
 told-over : (d : Desk) → d .more ≡ false → (h : Handed) → told d h ≡ unchanged d

@@ -40,7 +40,7 @@ module _ (d : Desk) (c : Chain) (kind : ℕ) (r : Ready c) where
   -- So a line of its figures is printed, and the run goes on with the next number.
   pub published-printed : published d c kind
       ≡ record {
-        desk = record { chain = c; number = after (d .number); more = true; reply = d .reply };
+        desk = record { chain = c; capacity = d .capacity; number = after (d .number); more = true; reply = d .reply };
         line = recordLine (d .number) kind (c .estimator .level) (c .protector .headroom) (c .controller .gain) (c .estimator .confident);
       }
   unfolding published publishedWith publishedTold lined refusal
@@ -49,7 +49,7 @@ module _ (d : Desk) (c : Chain) (kind : ℕ) (r : Ready c) where
 -- ---- a desk whose chain passes
 -- the desk after a gap: the chain's run is broken, and the next number is one more
 abbrev pub gapDesk : Desk → Desk
-gapDesk d = record { chain = interrupted (d .chain); number = after (d .number); more = true; reply = d .reply }
+gapDesk d = record { chain = interrupted (d .chain); capacity = d .capacity; number = after (d .number); more = true; reply = d .reply }
 
 -- the gap's line: the desk's number, G, and the level, the headroom and the gain that stood before
 abbrev pub gapLine : Desk → List ℕ

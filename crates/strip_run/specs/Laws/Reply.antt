@@ -50,13 +50,13 @@ either reply d s p = go (eqb reply done) refl
 begun-fair : (d : Desk) (m : Made) → Fair (begunWith d m .desk)
 unfolding begunWith
 begun-fair d m =
-    let next : Desk = record { chain = m .chain; number = after (d .number); more = true; reply = d .reply } in
+    let next : Desk = record { chain = m .chain; capacity = d .capacity; number = after (d .number); more = true; reply = d .reply } in
     either (m .reply) d (unchanged next) (goes-on next refl)
 
 lined-fair : (d : Desk) (c : Chain) (kind : ℕ) (p : Published) → Fair (lined d c kind p .desk)
 unfolding lined
 lined-fair d c kind p =
-    let next : Desk = record { chain = c; number = after (d .number); more = true; reply = d .reply } in
+    let next : Desk = record { chain = c; capacity = d .capacity; number = after (d .number); more = true; reply = d .reply } in
     let line = recordLine (d .number) kind (p .level .0) (p .headroom .0) (p .gain .0) (p .confident) in
     either (recordRefusal (p .level .0) (p .headroom .0) (p .gain .0)) d (record { desk = next; line = line }) (goes-on next refl)
 
@@ -93,7 +93,7 @@ kept d h p q = go (d .more)
 
 head-fair : (d : Desk) (h : Head) → Fair d → Fair (told d (head h) .desk)
 unfolding shown begun
-head-fair d h p = kept d (head h) p (begun-fair d (made (h .settings) (h .threshold) (h .samples)))
+head-fair d h p = kept d (head h) p (begun-fair d (made (h .settings) (h .threshold) (h .samples) (d .capacity)))
 
 entry-fair : (d : Desk) (e : Entry) → Fair d → Fair (told d (entry e) .desk)
 unfolding shown framed gapped
@@ -122,20 +122,20 @@ unfolding deskOf entriesThen
 entries-told d [] reply p e = ended-told d reply p e
 entries-told d (x ∷ es) reply p e = entries-told (told d (entry x) .desk) es reply (entry-fair d x p) e
 
-strip-told : (s : Strip) → deskOf told atStart (handedBy s) .reply ≡ done → s .reply ≡ done
+strip-told : (capacity : ℕ) (s : Strip) → deskOf told (atStart capacity) (handedBy s) .reply ≡ done → s .reply ≡ done
 unfolding handedBy deskOf atStart
-strip-told s = go (eqb (s .head .reply) done)
+strip-told capacity s = go (eqb (s .head .reply) done)
   where
-    fresh : Fair atStart
-    fresh = goes-on atStart refl
+    fresh : Fair (atStart capacity)
+    fresh = goes-on (atStart capacity) refl
 
     go : (b : Bool)
-        → deskOf told atStart (cond b (head (s .head .head) ∷ entriesThen (s .entries) (ending (s .reply))) (refused (s .reply) ∷ [])) .reply ≡ done
+        → deskOf told (atStart capacity) (cond b (head (s .head .head) ∷ entriesThen (s .entries) (ending (s .reply))) (refused (s .reply) ∷ [])) .reply ≡ done
         → s .reply ≡ done
-    go true e = entries-told (told atStart (head (s .head .head)) .desk) (s .entries) (s .reply) (head-fair atStart (s .head .head) fresh) e
-    go false e = refused-told atStart (s .reply) fresh e
+    go true e = entries-told (told (atStart capacity) (head (s .head .head)) .desk) (s .entries) (s .reply) (head-fair (atStart capacity) (s .head .head) fresh) e
+    go false e = refused-told (atStart capacity) (s .reply) fresh e
 
 -- Where the reply is 0, the strip was read to its end.
-pub read-whole : (strip : List ℕ) → replyOf strip ≡ done → readStrip (versionOf strip) strip .reply ≡ done
+pub read-whole : (capacity : ℕ) (strip : List ℕ) → replyOf capacity strip ≡ done → readStrip (versionOf strip) strip .reply ≡ done
 unfolding replyOf
-read-whole strip e = strip-told (readStrip (versionOf strip) strip) e
+read-whole capacity strip e = strip-told capacity (readStrip (versionOf strip) strip) e

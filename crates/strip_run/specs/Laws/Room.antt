@@ -49,7 +49,7 @@ refused-most d reply = refusal-line-fits (d .number) reply
 begun-most : (d : Desk) (m : Made) → Roomy (begunWith d m)
 unfolding begunWith
 begun-most d m =
-    let next : Desk = record { chain = m .chain; number = after (d .number); more = true; reply = d .reply } in
+    let next : Desk = record { chain = m .chain; capacity = d .capacity; number = after (d .number); more = true; reply = d .reply } in
     either (eqb (m .reply) done) (unchanged next) (refusedAt d (m .reply)) (none next) (refused-most d (m .reply))
 
 lined-most : (d : Desk) (c : Chain) (kind : ℕ) (p : Published) → Roomy (lined d c kind p)
@@ -57,7 +57,7 @@ unfolding lined
 lined-most d c kind p =
     let bad = recordRefusal (p .level .0) (p .headroom .0) (p .gain .0) in
     let line = recordLine (d .number) kind (p .level .0) (p .headroom .0) (p .gain .0) (p .confident) in
-    either (eqb bad done) (record { desk = record { chain = c; number = after (d .number); more = true; reply = d .reply }; line = line }) (refusedAt d bad)
+    either (eqb bad done) (record { desk = record { chain = c; capacity = d .capacity; number = after (d .number); more = true; reply = d .reply }; line = line }) (refusedAt d bad)
     (record-line-fits (d .number) kind (p .level .0) (p .headroom .0) (p .gain .0) (p .confident)) (refused-most d bad)
 
 reading-most : (d : Desk) (c : Chain) (kind : ℕ) (r : Reading) → Roomy (publishedWith d c kind r)
@@ -89,10 +89,10 @@ gapped-most d g =
 shown-most : (d : Desk) (h : Handed) → Roomy (shown d h)
 unfolding shown begun framed gapped
 shown-most d more = none d
-shown-most d (head h) = begun-most d (made (h .settings) (h .threshold) (h .samples))
+shown-most d (head h) = begun-most d (made (h .settings) (h .threshold) (h .samples) (d .capacity))
 shown-most d (entry (figures f)) = framed-most d f (samplesTold (d .chain))
 shown-most d (entry gap) = gapped-most d (Chaining.gap (d .chain))
-shown-most d end = none (record { chain = d .chain; number = d .number; more = false; reply = d .reply })
+shown-most d end = none (record { chain = d .chain; capacity = d .capacity; number = d .number; more = false; reply = d .reply })
 shown-most d (refused reply) = refused-most d reply
 
 pub told-most : (d : Desk) (h : Handed) → length (told d h .line) ≤ longest

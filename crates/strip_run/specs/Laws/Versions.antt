@@ -3,6 +3,7 @@
 -- Assumes nothing.
 use mathlib.Core.Path.{_≡_, sym, ap, _∙_}
 use mathlib.Core.List.{List, _∷_}
+use Prim.Native.Nat.{ℕ}
 use Rattle.lists.specs.Each.{Each}
 use Rattle.units.specs.Replies.{done}
 use Rattle.strip_format.specs.Format.{versionOf, inVersion, Entry, stripBytes}
@@ -33,12 +34,12 @@ module _ (v : Version) (h : Head) (es : List Entry) (s : Said v h es) where
       let p = held-in v h (s .held) in
       ap (λ (w : Version). handedBy (readStrip w strip)) (strip-says g es p (s .head) (s .records)) ∙ ap handedBy (strip-back g es p (s .head) (s .records))
 
-module _ (v w : Version) (h : Head) (es : List Entry) (s : Said v h es) (t : Said w h es) where
-  pub same-lines : lines (stripBytes (inVersion v h) es) ≡ lines (stripBytes (inVersion w h) es)
+module _ (capacity : ℕ) (v w : Version) (h : Head) (es : List Entry) (s : Said v h es) (t : Said w h es) where
+  pub same-lines : lines capacity (stripBytes (inVersion v h) es) ≡ lines capacity (stripBytes (inVersion w h) es)
   unfolding lines linesOf told shown begun inVersion
-  same-lines = ap (linesOf told atStart) (handed-out v h es s) ∙ sym (ap (linesOf told atStart) (handed-out w h es t))
+  same-lines = ap (linesOf told (atStart capacity)) (handed-out v h es s) ∙ sym (ap (linesOf told (atStart capacity)) (handed-out w h es t))
 
-  pub same-reply : replyOf (stripBytes (inVersion v h) es) ≡ replyOf (stripBytes (inVersion w h) es)
+  pub same-reply : replyOf capacity (stripBytes (inVersion v h) es) ≡ replyOf capacity (stripBytes (inVersion w h) es)
   unfolding replyOf deskOf told shown begun inVersion
   same-reply =
-      ap (λ (hs : List Handed). deskOf told atStart hs .reply) (handed-out v h es s) ∙ sym (ap (λ (hs : List Handed). deskOf told atStart hs .reply) (handed-out w h es t))
+      ap (λ (hs : List Handed). deskOf told (atStart capacity) hs .reply) (handed-out v h es s) ∙ sym (ap (λ (hs : List Handed). deskOf told (atStart capacity) hs .reply) (handed-out w h es t))

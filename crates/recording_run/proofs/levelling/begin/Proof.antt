@@ -24,7 +24,8 @@ returns : tie.Need-returns
 unfolding begun
 returns c =
     let at-head = c .before .before in
-    let at-test = at-head .before .before in
+    let at-new = at-head .before .before in
+    let at-test = at-new .before .before in
     let at-length = at-test .before .before in
     let at-extent = at-length .before in
     let at-chain = at-extent .before .before in (
@@ -32,15 +33,33 @@ returns c =
         eq-eqb _ _ (at-test .if1 .taken),
         ← at-extent .extent-of .ensures,
         ← at-chain .new .ensures,
+        eq-eqb _ _ (at-new .if2 .taken),
         at-length .head-bytes .ensures,
         at-head .write-head .ensures .0,
       ),
-      rw (eq-eqb _ _ (at-test .if1 .taken), ← at-extent .extent-of .ensures, at-head .write-head .ensures .1),
+      rw (eq-eqb _ _ (at-test .if1 .taken), ← at-extent .extent-of .ensures, ← at-chain .new .ensures, eq-eqb _ _ (at-new .if2 .taken), at-head .write-head .ensures .1),
     )
 
 returns-2 : tie.Need-returns-2
 unfolding begun
 returns-2 c =
+    let at-test = c .before .before in
+    let at-length = at-test .before .before in
+    let at-extent = at-length .before in
+    let at-chain = at-extent .before .before in (
+      rw (
+        eq-eqb _ _ (at-test .if1 .taken),
+        ← at-extent .extent-of .ensures,
+        ← at-chain .new .ensures,
+        ne-eqb _ _ (c .if2 .left),
+        at-length .head-bytes .ensures,
+      ),
+      rw (eq-eqb _ _ (at-test .if1 .taken), ← at-chain .new .ensures, ne-eqb _ _ (c .if2 .left)),
+    )
+
+returns-3 : tie.Need-returns-3
+unfolding begun
+returns-3 c =
     let at-length = c .before .before in
     let at-extent = at-length .before in
     let at-chain = at-extent .before .before in (
@@ -58,4 +77,5 @@ begin-spec =
     write-head-requires
     same-length
     returns
-    returns-2)
+    returns-2
+    returns-3)

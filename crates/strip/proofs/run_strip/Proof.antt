@@ -1,4 +1,4 @@
--- `strip::main` is safe and ends: it counts its turns down. Assumes nothing.
+-- `strip::run_strip` is safe and ends: it counts its turns down. Assumes nothing.
 use mathlib.Core.Path.{_≡_, sym}
 use mathlib.Core.List.{List}
 use Prim.Native.Nat.{ℕ, _≤_}
@@ -11,14 +11,14 @@ use Rattle.strip_run.specs.declared.Taken.{Taken}
 use mathlib.Core.Logic.{⊎-elim}
 use lib.ListN.{length}
 use borrow.Author.Needs.{needs}
-use Rattle.strip.proofs.main.Statement.{statement}
-use Rattle.strip.proofs.main.Tie as tie
+use Rattle.strip.proofs.run_strip.Statement.{statement}
+use Rattle.strip.proofs.run_strip.Tie as tie
 
 abbrev Inv-loop : tie.InvT-loop
-Inv-loop block₀ out₀ run₀ read₀ written₀ more₀ turns₀ block out run read written more turns = (length block ≡ 512) × (length out ≡ 65536)
+Inv-loop capacity block₀ out₀ run₀ read₀ written₀ more₀ turns₀ block out run read written more turns = (length block ≡ 512) × (length out ≡ 65536)
 
 abbrev μ-loop : tie.MeasureT-loop
-μ-loop block₀ out₀ run₀ read₀ written₀ more₀ turns₀ block out run read written more turns = turns
+μ-loop capacity block₀ out₀ run₀ read₀ written₀ more₀ turns₀ block out run read written more turns = turns
 
 large-buffer-requires : tie.Need-large-buffer-requires Inv-loop μ-loop
 large-buffer-requires c κs = search needs
@@ -89,8 +89,8 @@ tell-requires c κs = search needs
 returns : tie.Need-returns Inv-loop μ-loop
 returns c = search needs
 
-pub main-spec : {M : Type 1} → statement M
-main-spec =
+pub run-strip-spec : {M : Type 1} → statement M
+run-strip-spec =
     tie.close
     (tie.spec
     Inv-loop
