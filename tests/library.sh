@@ -192,6 +192,9 @@ same "the archive needs memset and memcpy at most" "" \
 version=$(sed -n 's/^const VERSION: u32 = \([0-9]*\);/\1/p' crates/murzicanu/src/lib.rt)
 same "the library, the header and the crate have one version" "$version $version" \
     "$(sed -n 's/^#define MURZICANU_VERSION \([0-9]*\)u$/\1/p' library/include/murzicanu.h) $(sed -n 's/^pub const VERSION: u32 = \([0-9]*\);/\1/p' library/rust/src/lib.rs)"
+usual=$(sed -n 's/^const USUAL: u32 = \([0-9]*\);/\1/p' crates/saturation_protector_buffer/src/lib.rt)
+same "the header and the crate have the usual capacity of a ring" "4 4 4" \
+    "$usual $(sed -n 's/^#define MURZICANU_USUAL_RING \([0-9]*\)u$/\1/p' library/include/murzicanu.h) $(sed -n 's/^pub const USUAL_RING: u32 = \([0-9]*\);/\1/p' library/rust/src/lib.rs)"
 for variable in MURZICANU_LIB MURZICANU_STRIP MURZICANU_LINES; do
     same "docs/EMBEDDING.md names $variable" yes "$(grep -q "\`$variable\`" docs/EMBEDDING.md && echo yes)"
 done
@@ -216,7 +219,7 @@ int main(void) {
     murzicanu_answer answer;
     murzicanu_published now;
     float frame[480] = {0}, level;
-    uint32_t refused = murzicanu_chain_new(&chain, &settings, 12, 480);
+    uint32_t refused = murzicanu_chain_new(&chain, &settings, 12, 480, MURZICANU_USUAL_RING);
     refused |= murzicanu_chain_step(&chain, &figures, frame, 480, 1, 480, &answer);
     refused |= murzicanu_chain_gap(&chain);
     refused |= murzicanu_chain_read(&chain, &now);
@@ -245,7 +248,8 @@ grep -q '^error' "$room/said" && cat "$room/said"
 cat >"$room/other.c" <<'END'
 #include "murzicanu.h"
 uint32_t murzicanu_version(void) { return 99; }
-uint32_t murzicanu_chain_new(murzicanu_chain *a, const murzicanu_settings *b, uint32_t c, size_t d) { return !a + !b + !c + !d; }
+uint32_t murzicanu_chain_new(murzicanu_chain *a, const murzicanu_settings *b, uint32_t c, size_t d,
+                             uint32_t e) { return !a + !b + !c + !d + !e; }
 uint32_t murzicanu_chain_step(murzicanu_chain *a, const murzicanu_figures *b, float *c, size_t d, size_t e, size_t f,
                               murzicanu_answer *g) { return !a + !b + !c + !d + !e + !f + !g; }
 uint32_t murzicanu_chain_gap(murzicanu_chain *a) { return !a; }

@@ -19,7 +19,7 @@ int main(void) {
     }
     murzicanu_settings settings = MURZICANU_USUAL_SETTINGS;
     murzicanu_chain chain;
-    uint32_t reply = murzicanu_chain_new(&chain, &settings, MURZICANU_USUAL_THRESHOLD, SAMPLES);
+    uint32_t reply = murzicanu_chain_new(&chain, &settings, MURZICANU_USUAL_THRESHOLD, SAMPLES, MURZICANU_USUAL_RING);
     if (reply != MURZICANU_DONE) {
         fprintf(stderr, "a new chain is refused with %u\n", reply);
         return 1;

@@ -30,6 +30,11 @@ static float real(const unsigned char *at) {
     return x;
 }
 
+/* A new chain with the usual ring, which the tests have where the ring is not what they are about. */
+static uint32_t new_chain(murzicanu_chain *chain, const murzicanu_settings *settings, uint32_t threshold, size_t samples) {
+    return murzicanu_chain_new(chain, settings, threshold, samples, MURZICANU_USUAL_RING);
+}
+
 /* Hundredths of a figure, cut toward zero; a double holds them exactly. */
 static long hundredths(float x) { return (long)((double)x * 100.0); }
 
@@ -47,7 +52,7 @@ static void service(const char *strip, const char *lines) {
     size_t samples = big(rest, 2);
     murzicanu_settings settings = {real(rest + 2), real(rest + 6), real(rest + 10), real(rest + 14), real(rest + 18)};
     murzicanu_chain chain;
-    check(murzicanu_chain_new(&chain, &settings, big(head + 3, version), samples) == MURZICANU_DONE, "a new chain");
+    check(new_chain(&chain, &settings, big(head + 3, version), samples) == MURZICANU_DONE, "a new chain");
     int same = 1, count = 0;
     while (fread(record, 1, 2, in) == 2) {
         float frame[480] = {0};
@@ -148,7 +153,7 @@ static int made(murzicanu_chain *chain, murzicanu_limiter *limiter, int pattern,
     murzicanu_settings settings = MURZICANU_USUAL_SETTINGS;
     memset(chain, pattern, sizeof *chain);
     memset(limiter, pattern, sizeof *limiter);
-    int good = murzicanu_chain_new(chain, &settings, 12, SAMPLES) == MURZICANU_DONE &&
+    int good = new_chain(chain, &settings, 12, SAMPLES) == MURZICANU_DONE &&
                murzicanu_limiter_new(limiter, SAMPLES) == MURZICANU_DONE;
     for (int k = 0; k < frames; k++) {
         float frame[LENGTH];
@@ -184,11 +189,11 @@ static void determined(void) {
     check(unchanged(&a, &b, sizeof a) && unchanged(&c, &d, sizeof c), "and reading changes no byte of them");
     wrong.noise = -0.0f;
     memset(&a, 0xAA, sizeof a);
-    int none = murzicanu_chain_new(&a, &settings, 12, 441) == MURZICANU_SHAPE && all_0(&a, sizeof a);
+    int none = new_chain(&a, &settings, 12, 441) == MURZICANU_SHAPE && all_0(&a, sizeof a);
     memset(&a, 0xAA, sizeof a);
-    none = none && murzicanu_chain_new(&a, &wrong, 12, SAMPLES) == MURZICANU_SETTING && all_0(&a, sizeof a);
+    none = none && new_chain(&a, &wrong, 12, SAMPLES) == MURZICANU_SETTING && all_0(&a, sizeof a);
     memset(&a, 0xAA, sizeof a);
-    none = none && murzicanu_chain_new(&a, &settings, 0, SAMPLES) == MURZICANU_SETTING && all_0(&a, sizeof a);
+    none = none && new_chain(&a, &settings, 0, SAMPLES) == MURZICANU_SETTING && all_0(&a, sizeof a);
     memset(&c, 0xAA, sizeof c);
     none = none && murzicanu_limiter_new(&c, 500) == MURZICANU_SHAPE && all_0(&c, sizeof c);
     check(none, "every byte of a chain and a limiter that are refused as new is 0");
@@ -341,7 +346,7 @@ static void longest(void) {
     murzicanu_published before, now;
     int kinds[3] = {0}, pauses[3] = {0};
     settings.change = 1.0f;
-    check(murzicanu_chain_new(&chain, &settings, 3000, 40) == MURZICANU_DONE, "a new chain with threshold 3000");
+    check(new_chain(&chain, &settings, 3000, 40) == MURZICANU_DONE, "a new chain with threshold 3000");
     int good = murzicanu_chain_read(&chain, &before) == MURZICANU_DONE;
     good = good && heard(&chain, quiet, 2999, kinds) && kinds[MURZICANU_WAITING] == 2999;
     good = good && murzicanu_chain_read(&chain, &now) == MURZICANU_DONE && unchanged(&before, &now, sizeof now);
@@ -352,13 +357,13 @@ static void longest(void) {
     /* At one dB a second the gain may rise by 30 dB after thirty seconds; the target lies between, so it is reached. */
     check(good && now.gain > 30.0f && now.gain < 45.0f, "the first step up is that of 3000 frames");
     settings.change = 0.5f;
-    good = murzicanu_chain_new(&chain, &settings, 3000, 40) == MURZICANU_DONE && heard(&chain, quiet, 3000, kinds) &&
+    good = new_chain(&chain, &settings, 3000, 40) == MURZICANU_DONE && heard(&chain, quiet, 3000, kinds) &&
            murzicanu_chain_read(&chain, &now) == MURZICANU_DONE && fabsf(now.gain - 30.0f) < 0.001f;
     good = good && heard(&chain, quiet, 1, kinds) && murzicanu_chain_read(&chain, &now) == MURZICANU_DONE;
     check(good && fabsf(now.gain - 30.005f) < 0.001f, "at half a dB a second it is 15 dB, and the next one 0.005 dB");
 
-    good = murzicanu_chain_new(&chain, &settings, 3000, 40) == MURZICANU_DONE &&
-           murzicanu_chain_new(&other, &settings, 3000, 40) == MURZICANU_DONE && heard(&chain, quiet, 2999, kinds) &&
+    good = new_chain(&chain, &settings, 3000, 40) == MURZICANU_DONE &&
+           new_chain(&other, &settings, 3000, 40) == MURZICANU_DONE && heard(&chain, quiet, 2999, kinds) &&
            heard(&chain, pause, 1, kinds) && heard(&other, pause, 3000, pauses);
     check(good && pauses[MURZICANU_NO_SPEECH] == 3000 && unchanged(&chain, &other, sizeof chain),
           "a run of 2999 frames that a pause ends leaves no byte in the chain");
@@ -380,7 +385,8 @@ static void gaps_refused(void) {
     murzicanu_controller *const gain = &other.controller;
     murzicanu_limiter *const limits = &other.limiter;
     uint32_t *const numbers[] = {&level->threshold, &level->preliminary.left, &level->confident, &level->count,
-                                 &peaks->threshold, &peaks->reliable.ring.place, &peaks->reliable.ring.size,
+                                 &peaks->threshold, &peaks->preliminary.ring.capacity, &peaks->reliable.ring.capacity,
+                                 &peaks->reliable.ring.place, &peaks->reliable.ring.size,
                                  &gain->applier.clip, &gain->threshold, &gain->waiting, &limits->estimator.samples,
                                  &limits->estimator.part, &limits->curve.available, &limits->curve.region};
     float *const reals[] = {&level->settings.headroom, &level->level, &level->reliable.sum, &peaks->initial,
@@ -397,9 +403,9 @@ static void gaps_refused(void) {
         *reals[i] = NAN;
         good = good && gap_refused(&other);
     }
-    check(good, "a gap of a damaged chain is refused with 4 and changes no byte, for each of 25 fields");
+    check(good, "a gap of a damaged chain is refused with 4 and changes no byte, for each of 27 fields");
     murzicanu_settings settings = MURZICANU_USUAL_SETTINGS;
-    good = murzicanu_chain_new(&other, &settings, 0, SAMPLES) == MURZICANU_SETTING && gap_refused(&other);
+    good = new_chain(&other, &settings, 0, SAMPLES) == MURZICANU_SETTING && gap_refused(&other);
     check(good, "so is one of a chain that was refused as new");
     check(murzicanu_chain_gap(&chain) == MURZICANU_DONE, "and the chain that was made takes it");
 }
@@ -415,7 +421,7 @@ static void gaps(void) {
     for (int t = 0; t < 4; t++) {
         int run = (int)thresholds[t] - 1, with[3] = {0}, without[3] = {0};
         char name[96];
-        int good = murzicanu_chain_new(&chain, &settings, thresholds[t], 40) == MURZICANU_DONE;
+        int good = new_chain(&chain, &settings, thresholds[t], 40) == MURZICANU_DONE;
         other = chain;
         good = good && murzicanu_chain_read(&chain, &first) == MURZICANU_DONE && heard(&chain, SPEECH, run, with) &&
                murzicanu_chain_gap(&chain) == MURZICANU_DONE && heard(&chain, SPEECH, run, with) &&
@@ -445,8 +451,8 @@ static void gaps(void) {
 
     /* The same service twice, once with gaps in its pauses, directly after a pause's frame. */
     int count = 0;
-    good = murzicanu_chain_new(&chain, &settings, 12, SAMPLES) == MURZICANU_DONE &&
-           murzicanu_chain_new(&other, &settings, 12, SAMPLES) == MURZICANU_DONE &&
+    good = new_chain(&chain, &settings, 12, SAMPLES) == MURZICANU_DONE &&
+           new_chain(&other, &settings, 12, SAMPLES) == MURZICANU_DONE &&
            murzicanu_chain_gap(&chain) == MURZICANU_DONE;
     for (int k = 0; k < 400; k++) {
         int speaks = k % 100 < 70;
@@ -464,6 +470,159 @@ static void gaps(void) {
                unchanged(&chain, &other, sizeof chain);
     }
     check(good && count > 200, "gaps in pauses change no sample, no answer and no byte of the chain");
+}
+
+/* A step, a gap and a reading of a chain that fails its test: each is refused with 4, and none changes a byte. */
+static int fails(murzicanu_chain *chain) {
+    murzicanu_chain before;
+    murzicanu_published now;
+    float frame[LENGTH];
+    uint32_t reply;
+    memcpy(&before, chain, sizeof before);
+    memset(&now, 0xAA, sizeof now);
+    tone(frame, 0);
+    return chain_refused(chain, &SPEECH, frame, LENGTH, CHANNELS, SAMPLES, &reply) && reply == MURZICANU_SETTING &&
+           gap_refused(chain) && murzicanu_chain_read(chain, &now) == MURZICANU_SETTING && all_0(&now, sizeof now) &&
+           unchanged(chain, &before, sizeof before);
+}
+
+/* Puts these capacities into the two rings of a chain. */
+static void set_rings(murzicanu_chain *chain, uint32_t preliminary, uint32_t reliable) {
+    chain->protector.preliminary.ring.capacity = preliminary;
+    chain->protector.reliable.ring.capacity = reliable;
+}
+
+/* At which frame of speech, counted from 1, two chains first answer differently that differ in their rings alone: 0 where
+ * none of so many frames does, and -1 where a call is refused. Each 41 frames have another peak than the 41 before them. */
+static int apart(uint32_t one, uint32_t other, int frames) {
+    murzicanu_settings settings = MURZICANU_USUAL_SETTINGS;
+    murzicanu_chain first, second;
+    if (murzicanu_chain_new(&first, &settings, 1, 40, one) != MURZICANU_DONE ||
+        murzicanu_chain_new(&second, &settings, 1, 40, other) != MURZICANU_DONE)
+        return -1;
+    for (int k = 1; k <= frames; k++) {
+        murzicanu_figures figures = {1.0f, -28.0f, -6.0f - (float)((k - 1) / 41 % 2), -80.0f, -60.0f};
+        float frame[40] = {0}, sound[40] = {0};
+        murzicanu_answer answer, same;
+        if (murzicanu_chain_step(&first, &figures, frame, 40, 1, 40, &answer) != MURZICANU_DONE ||
+            murzicanu_chain_step(&second, &figures, sound, 40, 1, 40, &same) != MURZICANU_DONE)
+            return -1;
+        if (!unchanged(&answer, &same, sizeof answer))
+            return k;
+    }
+    return 0;
+}
+
+/* The ring's capacity: 1 to 16, one for both rings of a chain, and what stands in the slots from it on does not matter. */
+static void rings(void) {
+    const uint32_t wrong[] = {0, 17, 65536 + 4, UINT32_MAX};
+    murzicanu_settings settings = MURZICANU_USUAL_SETTINGS;
+    murzicanu_chain chain, other, twin;
+    murzicanu_limiter limiter;
+    for (int i = 0; i < 4; i++) {
+        char name[96];
+        snprintf(name, sizeof name, "a ring's capacity of %u is refused with 4, and every byte of the chain is 0", wrong[i]);
+        memset(&chain, 0xAA, sizeof chain);
+        check(murzicanu_chain_new(&chain, &settings, 12, SAMPLES, wrong[i]) == MURZICANU_SETTING && all_0(&chain, sizeof chain),
+              name);
+    }
+    memset(&chain, 0xAA, sizeof chain);
+    check(murzicanu_chain_new(&chain, &settings, 12, 441, 17) == MURZICANU_SHAPE && all_0(&chain, sizeof chain),
+          "where the samples are none as well, it is refused with 1");
+    int good = 1;
+    for (uint32_t n = 1; n <= 16; n++) {
+        memset(&chain, 0xAA, sizeof chain);
+        memset(&other, 0x55, sizeof other);
+        good = good && murzicanu_chain_new(&chain, &settings, 12, SAMPLES, n) == MURZICANU_DONE &&
+               murzicanu_chain_new(&other, &settings, 12, SAMPLES, n) == MURZICANU_DONE &&
+               unchanged(&chain, &other, sizeof chain) && chain.protector.preliminary.ring.capacity == n &&
+               chain.protector.reliable.ring.capacity == n && murzicanu_chain_gap(&chain) == MURZICANU_DONE;
+    }
+    check(good, "a ring's capacity of 1 to 16 is taken, both rings have it, and every byte of the chain is determined");
+
+    /* In a ring of 4 that has heard 20 frames each of these capacities has its place, its size and its slots, so that only
+     * the two that differ are refused. */
+    good = made(&chain, &limiter, 0xAA, 20);
+    int taken = good;
+    for (uint32_t n = 1; n <= 16; n++) {
+        other = chain;
+        set_rings(&other, n, n);
+        taken = taken && murzicanu_chain_gap(&other) == MURZICANU_DONE;
+        for (uint32_t m = 1; m <= 16; m++) {
+            other = chain;
+            set_rings(&other, n, m);
+            good = good && (n == m || fails(&other));
+        }
+    }
+    check(good, "a chain whose two rings differ in capacity is refused with 4 and changes no byte, in each of 240 ways");
+    check(taken, "and where both are changed alike, it is taken");
+    good = 1;
+    for (int i = 0; i < 4; i++) {
+        other = chain;
+        set_rings(&other, wrong[i], wrong[i]);
+        good = good && fails(&other);
+    }
+    other = chain;
+    other.protector.preliminary.ring.place = 4;
+    good = good && fails(&other);
+    other = chain;
+    other.protector.preliminary.ring.size = 5;
+    good = good && fails(&other);
+    check(good, "one whose rings have a capacity that is none, or a place or a size beyond it, is refused with 4");
+
+    /* Numbers and none, quiet and signalling, in every slot that is not the ring's: a service with pauses and gaps, once over
+     * them and once over the zeros of a new chain. */
+    const uint32_t sizes[] = {1, 4, 9, 15, 16};
+    const murzicanu_figures pause = {0.05f, -70.0f, -60.0f, -80.0f, -60.0f};
+    int inside = 1;
+    good = 1;
+    for (int s = 0; s < 5; s++) {
+        uint32_t n = sizes[s];
+        size_t left = (16 - n) * sizeof(float);
+        good = good && murzicanu_chain_new(&chain, &settings, 12, SAMPLES, n) == MURZICANU_DONE;
+        other = chain;
+        murzicanu_ring *const first = &other.protector.preliminary.ring, *const second = &other.protector.reliable.ring;
+        for (uint32_t i = n; i < 16; i++) {
+            const uint32_t bits[] = {0x7FC00000u + i, 0xFFFFFFFFu, 0x7F800000u, 0x7F800001u + i, 0xCAFEF00Du};
+            memcpy(&first->stored[i], &bits[i % 5], 4);
+            memcpy(&second->stored[i], &bits[i % 5], 4);
+        }
+        twin = other;
+        for (int k = 0; k < 400; k++) {
+            const murzicanu_figures *figures = k % 100 < 90 ? &SPEECH : &pause;
+            float frame[LENGTH], sound[LENGTH];
+            murzicanu_answer answer, same;
+            tone(frame, k);
+            memcpy(sound, frame, sizeof sound);
+            good = good &&
+                   murzicanu_chain_step(&chain, figures, frame, LENGTH, CHANNELS, SAMPLES, &answer) == MURZICANU_DONE &&
+                   murzicanu_chain_step(&other, figures, sound, LENGTH, CHANNELS, SAMPLES, &same) == MURZICANU_DONE &&
+                   unchanged(frame, sound, sizeof frame) && unchanged(&answer, &same, sizeof answer);
+            if (k % 130 == 129)
+                good = good && murzicanu_chain_gap(&chain) == MURZICANU_DONE && murzicanu_chain_gap(&other) == MURZICANU_DONE;
+        }
+        good = good && first->capacity == n && second->capacity == n && second->size > 0 &&
+               unchanged(first->stored + n, twin.protector.preliminary.ring.stored + n, left) &&
+               unchanged(second->stored + n, twin.protector.reliable.ring.stored + n, left);
+        memset(first->stored + n, 0, left);
+        memset(second->stored + n, 0, left);
+        good = good && unchanged(&chain, &other, sizeof chain);
+        first->stored[n - 1] = NAN;
+        inside = inside && fails(&other);
+        other = chain;
+        second->stored[n - 1] = NAN;
+        inside = inside && fails(&other);
+    }
+    check(good, "what stands in the slots from the capacity on, also what is no number, stays, and changes nothing else");
+    check(inside, "what is no number in the last slot below the capacity is refused with 4, in either ring");
+
+    /* The ring of n drops its oldest peak at its push n + 1, in frame 41 (n + 1); one of 16 still has it. */
+    good = apart(4, 4, 700) == 0 && apart(16, 16, 700) == 0;
+    for (int n = 1; n < 16; n++)
+        good = good && apart(n, 16, 700) == 41 * (n + 1);
+    check(apart(4, 16, 204) == 0 && apart(4, 16, 205) == 205,
+          "rings of 4 and of 16 answer alike for 204 frames of speech, and differ in the frame that drops the oldest peak of 4");
+    check(good, "a ring of n and one of 16 first differ in frame 41 (n + 1), for each n below 16");
 }
 
 /* The register MXCSR: how the processor rounds, and what it does with the smallest numbers. */
@@ -494,7 +653,7 @@ static void floats(void) {
     murzicanu_answer answer;
     float frame[LENGTH];
     tone(frame, 0);
-    int good = murzicanu_chain_new(&chain, &settings, 12, SAMPLES) == MURZICANU_DONE;
+    int good = new_chain(&chain, &settings, 12, SAMPLES) == MURZICANU_DONE;
     _mm_setcsr(ROUND_UP);
     int told = murzicanu_floats_ready() == 0;
     uint32_t read = murzicanu_chain_read(&chain, &now);
@@ -535,26 +694,27 @@ int main(int argc, char **argv) {
     longest();
     gaps_refused();
     gaps();
+    rings();
     floats();
 
     murzicanu_settings settings = MURZICANU_USUAL_SETTINGS, wrong = settings;
     murzicanu_chain chain, before, zero;
     memset(&zero, 0, sizeof zero);
     wrong.change = NAN;
-    check(murzicanu_chain_new(&chain, &settings, 12, 441) == MURZICANU_SHAPE, "441 samples are refused with 1");
-    check(murzicanu_chain_new(&chain, &wrong, 12, 480) == MURZICANU_SETTING, "a setting that is no number is refused with 4");
+    check(new_chain(&chain, &settings, 12, 441) == MURZICANU_SHAPE, "441 samples are refused with 1");
+    check(new_chain(&chain, &wrong, 12, 480) == MURZICANU_SETTING, "a setting that is no number is refused with 4");
     const uint32_t thresholds[] = {0, 3001, 65536 + 12, UINT32_MAX};
     for (int t = 0; t < 4; t++) {
         char name[64];
         snprintf(name, sizeof name, "a threshold of %u is refused with 4", thresholds[t]);
-        check(murzicanu_chain_new(&chain, &settings, thresholds[t], 480) == MURZICANU_SETTING, name);
+        check(new_chain(&chain, &settings, thresholds[t], 480) == MURZICANU_SETTING, name);
     }
 
     /* Eight channels, loud enough for the limiter. */
     murzicanu_figures figures = {0.95f, -20.0f, -12.0f, -80.0f, -60.0f};
     murzicanu_answer answer;
     static float frame[8 * 480], copy[8 * 480];
-    check(murzicanu_chain_new(&chain, &settings, 1, 480) == MURZICANU_DONE, "a new chain with threshold 1");
+    check(new_chain(&chain, &settings, 1, 480) == MURZICANU_DONE, "a new chain with threshold 1");
     int inside = 1, done = 1;
     for (int k = 0; k < 200; k++) {
         for (int i = 0; i < 8 * 480; i++)

@@ -40,9 +40,10 @@ extern "C" {
 #endif
 
 /* The version of this header: of the functions and of the structs. murzicanu_version() tells that of the archive; where
- * the two differ, the structs may differ too, so compare them before the first call. In version 1 there was no
- * murzicanu_chain_gap. */
-#define MURZICANU_VERSION 2u
+ * the two differ, the structs may differ too, so compare them before the first call. A struct that was saved under another
+ * version is none of this one. In version 1 there was no murzicanu_chain_gap; before version 3 murzicanu_chain_new took no
+ * capacity, and each ring of a chain had four slots. */
+#define MURZICANU_VERSION 3u
 
 /* What every other function answers. Where several apply, the first in the order 1, 4, 2, 3 is told. */
 #define MURZICANU_DONE 0u
@@ -53,7 +54,8 @@ extern "C" {
 #define MURZICANU_FIGURE 2u
 /* A sample that is not a number, infinite or too large: beyond 65536 for a chain, 33554432 for a limiter. */
 #define MURZICANU_SAMPLE 3u
-/* A setting out of its range, a threshold that is not 1 to 3000, or a state that fails its test. */
+/* A setting out of its range, a threshold that is not 1 to 3000, a ring's capacity that is not 1 to 16, or a state that
+ * fails its test. */
 #define MURZICANU_SETTING 4u
 
 /* What an operator sets. */
@@ -70,6 +72,9 @@ typedef struct {
 
 /* How many adjacent speech frames make a reading, usually. A threshold may be 1 to 3000, which is thirty seconds. */
 #define MURZICANU_USUAL_THRESHOLD 12u
+
+/* How many peaks a chain remembers, usually: the capacity of its rings. A capacity may be 1 to 16. */
+#define MURZICANU_USUAL_RING 4u
 
 /* What your meters said of a frame. */
 typedef struct {
@@ -120,10 +125,13 @@ typedef struct {
     uint32_t count;
 } murzicanu_speech_level;
 
+/* The recent peaks. No call looks at a slot from the capacity on: it may hold anything, also what is no number, and goes
+ * along where a ring is copied. The two rings of a chain have one capacity; a chain whose two differ fails its test. */
 typedef struct {
-    float stored[4];
-    uint32_t place;
-    uint32_t size;
+    float stored[16];
+    uint32_t capacity; /* 1 to 16 */
+    uint32_t place;    /* where the next peak goes, below the capacity */
+    uint32_t size;     /* how many peaks there are, up to the capacity */
 } murzicanu_ring;
 
 typedef struct {
@@ -208,23 +216,27 @@ MURZICANU_LAID_OUT(answer_size, sizeof(murzicanu_answer) == 16);
 MURZICANU_LAID_OUT(published_size, sizeof(murzicanu_published) == 16);
 MURZICANU_LAID_OUT(average_size, sizeof(murzicanu_average) == 12);
 MURZICANU_LAID_OUT(speech_level_size, sizeof(murzicanu_speech_level) == 64);
-MURZICANU_LAID_OUT(ring_size, sizeof(murzicanu_ring) == 24);
-MURZICANU_LAID_OUT(peaks_size, sizeof(murzicanu_peaks) == 36);
-MURZICANU_LAID_OUT(protector_size, sizeof(murzicanu_protector) == 88);
+MURZICANU_LAID_OUT(ring_size, sizeof(murzicanu_ring) == 76);
+MURZICANU_LAID_OUT(peaks_size, sizeof(murzicanu_peaks) == 88);
+MURZICANU_LAID_OUT(protector_size, sizeof(murzicanu_protector) == 192);
 MURZICANU_LAID_OUT(applier_size, sizeof(murzicanu_applier) == 20);
 MURZICANU_LAID_OUT(controller_size, sizeof(murzicanu_controller) == 56);
 MURZICANU_LAID_OUT(envelope_size, sizeof(murzicanu_envelope) == 12);
 MURZICANU_LAID_OUT(curve_size, sizeof(murzicanu_curve) == 48);
 MURZICANU_LAID_OUT(limiter_size, sizeof(murzicanu_limiter) == 64);
-MURZICANU_LAID_OUT(chain_size, sizeof(murzicanu_chain) == 272);
+MURZICANU_LAID_OUT(chain_size, sizeof(murzicanu_chain) == 376);
+MURZICANU_LAID_OUT(capacity_place, offsetof(murzicanu_ring, capacity) == 64);
+MURZICANU_LAID_OUT(place_place, offsetof(murzicanu_ring, place) == 68);
+MURZICANU_LAID_OUT(size_place, offsetof(murzicanu_ring, size) == 72);
+MURZICANU_LAID_OUT(ring_place, offsetof(murzicanu_peaks, ring) == 4);
 MURZICANU_LAID_OUT(preliminary_place, offsetof(murzicanu_protector, preliminary) == 16);
-MURZICANU_LAID_OUT(reliable_place, offsetof(murzicanu_protector, reliable) == 52);
+MURZICANU_LAID_OUT(reliable_place, offsetof(murzicanu_protector, reliable) == 104);
 MURZICANU_LAID_OUT(carried_place, offsetof(murzicanu_limiter, carried) == 12);
 MURZICANU_LAID_OUT(curve_place, offsetof(murzicanu_limiter, curve) == 16);
 MURZICANU_LAID_OUT(duration_place, offsetof(murzicanu_curve, duration) == 40);
 MURZICANU_LAID_OUT(protector_place, offsetof(murzicanu_chain, protector) == 64);
-MURZICANU_LAID_OUT(controller_place, offsetof(murzicanu_chain, controller) == 152);
-MURZICANU_LAID_OUT(limiter_place, offsetof(murzicanu_chain, limiter) == 208);
+MURZICANU_LAID_OUT(controller_place, offsetof(murzicanu_chain, controller) == 256);
+MURZICANU_LAID_OUT(limiter_place, offsetof(murzicanu_chain, limiter) == 312);
 
 /* The version of the archive: MURZICANU_VERSION where it fits this header. */
 uint32_t murzicanu_version(void);
@@ -251,10 +263,16 @@ static inline int murzicanu_floats_ready(void) {
 
 /* Makes a new chain for frames with so many samples a channel (10 ms: 480 at 48 kHz). The threshold, 1 to 3000, is how
  * many speech frames in a row make a reading: until a run has so many, what stood before stays published. A speech run of
- * fewer frames that a non-speech frame or a gap closes leaves no trace in what is published later. Refused with 1 or 4;
- * the chain is then all 0, and every call refuses it. */
+ * fewer frames that a non-speech frame or a gap closes leaves no trace in what is published later.
+ *
+ * The ring's capacity, 1 to 16, is how many peaks the chain remembers: each is the largest of 41 speech frames, and the
+ * headroom goes by the oldest. MURZICANU_USUAL_RING is the usual one, and a larger one is for a hall that echoes, where the
+ * peak arrives late. No call changes it.
+ *
+ * Refused with 1 for the samples, then with 4 for the settings, the threshold or the capacity; the chain is then all 0, and
+ * every call refuses it. */
 uint32_t murzicanu_chain_new(murzicanu_chain *chain, const murzicanu_settings *settings, uint32_t threshold,
-                             size_t samples);
+                             size_t samples, uint32_t ring_capacity);
 
 /* Levels a frame where it stands, and tells what it was. `length` is the number of floats at `frame`, and has to be
  * channels times samples. Refused with 1, 4, 2 or 3; nothing is then stored in the chain or the frame, and the answer

@@ -71,10 +71,10 @@ unfoldable pub chainPasses : KeptChain → Bool
 unfolding soundChain chainOf Chains.passes
 chainPasses k = soundChain k && Chains.passes (chainOf k)
 
--- a refused one is all 0
-unfoldable pub chainMade : Settings → ℕ → ℕ → NewChain
+-- of settings, a threshold, the samples of a channel and the capacity of the rings; a refused one is all 0
+unfoldable pub chainMade : Settings → ℕ → ℕ → ℕ → NewChain
 unfolding Chaining.made keptChain
-chainMade s t samples = let m = Chaining.made s t samples in record { reply = m .reply; chain = keptChain (m .chain) }
+chainMade s t samples capacity = let m = Chaining.made s t samples capacity in record { reply = m .reply; chain = keptChain (m .chain) }
 
 -- an answer as numbers: its kind, how many frames are missing, the level and the headroom; 0 where it says nothing of them
 unfoldable pub keptAnswer : Said → KeptAnswer

@@ -154,11 +154,12 @@ pub fn read_limiter(kept: KeptLimiter) -> LevelRead
     }
 }
 
-// A new chain for channels of so many samples, refused with 1 or 4.
-pub fn make_chain(settings: Settings, threshold: u32, samples: usize) -> NewChain
-    ensures { λ r. ⌜ r ≡ chainMade settings threshold samples ⌝ }
+// A new chain for channels of so many samples, whose protector remembers as many peaks as the capacity says. Samples that
+// are no shape's are refused with 1, then settings, a threshold or a capacity (1 to 16) out of their ranges with 4.
+pub fn make_chain(settings: Settings, threshold: u32, samples: usize, capacity: u32) -> NewChain
+    ensures { λ r. ⌜ r ≡ chainMade settings threshold samples capacity ⌝ }
 {
-    let made = Chain::new(settings, threshold, samples);
+    let made = Chain::new(settings, threshold, samples, capacity);
     let chain = made.chain;
     NewChain {
         reply: made.reply,

@@ -24,7 +24,7 @@ use units::replies::DONE;
 use units::settings::Settings;
 
 // The version of the interface: of the functions below and of the structs that they are lent.
-const VERSION: u32 = 2;
+const VERSION: u32 = 3;
 
 // The version of the interface. A caller compares it with the version that its own declarations have.
 #[no_mangle]
@@ -34,20 +34,21 @@ pub extern "C" fn murzicanu_version() -> u32
     VERSION
 }
 
-// Makes a new chain for channels of so many samples; refused with 1 or 4, and then the chain is all 0, which
-// every step refuses.
+// Makes a new chain for channels of so many samples, whose protector remembers as many peaks as the capacity says, 1 to
+// 16. Refused with 1 or 4, and then the chain is all 0, which every step refuses.
 #[no_mangle]
 pub extern "C" fn murzicanu_chain_new(
     chain: &mut KeptChain,
     settings: &Settings,
     threshold: u32,
     samples: usize,
+    capacity: u32,
 ) -> u32
-    ensures { λ r. ⌜ r ≡ chainMade (now (settings .entry)) threshold samples .reply ⌝ }
-    ensures { λ _. ⌜ now (chain .exit) ≡ chainMade (now (settings .entry)) threshold samples .chain ⌝ }
+    ensures { λ r. ⌜ r ≡ chainMade (now (settings .entry)) threshold samples capacity .reply ⌝ }
+    ensures { λ _. ⌜ now (chain .exit) ≡ chainMade (now (settings .entry)) threshold samples capacity .chain ⌝ }
 {
     let given = *settings;
-    let made = make_chain(given, threshold, samples);
+    let made = make_chain(given, threshold, samples, capacity);
     *chain = made.chain;
     made.reply
 }

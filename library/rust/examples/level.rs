@@ -1,11 +1,11 @@
 //! An example: readings with pauses, and a cough in one pause, through the whole box.
 
-use murzicanu::{Chain, Figures, Refusal, Settings, USUAL_THRESHOLD};
+use murzicanu::{Chain, Figures, Refusal, Settings, USUAL_RING, USUAL_THRESHOLD};
 
 const SAMPLES: usize = 480;
 
 fn main() -> Result<(), Refusal> {
-    let mut chain = Chain::new(&Settings::default(), USUAL_THRESHOLD, SAMPLES)?;
+    let mut chain = Chain::new(&Settings::default(), USUAL_THRESHOLD, SAMPLES, USUAL_RING)?;
     for k in 0..1000 {
         // A second of reading, half a second of pause; in one pause a cough of five frames.
         let reading = k % 150 < 100;

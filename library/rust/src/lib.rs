@@ -14,9 +14,9 @@
 //! not flushed to zero. A thread that was set otherwise is refused by `new`, and [`floats_ready`] asks at any time.
 //!
 //! ```
-//! use murzicanu::{Answer, Chain, Figures, Settings, USUAL_THRESHOLD};
+//! use murzicanu::{Answer, Chain, Figures, Settings, USUAL_RING, USUAL_THRESHOLD};
 //!
-//! let mut chain = Chain::new(&Settings::default(), USUAL_THRESHOLD, 480)?;
+//! let mut chain = Chain::new(&Settings::default(), USUAL_THRESHOLD, 480, USUAL_RING)?;
 //! let figures = Figures { probability: 0.95, rms: -32.0, peak: -20.0, noise: -80.0, envelope: -60.0 };
 //! let mut frame = [0.0_f32; 480];
 //! match chain.step(&figures, &mut frame, 1)? {
@@ -42,8 +42,11 @@ pub use floats::floats_ready;
 /// How many adjacent speech frames make a reading, usually. A threshold may be 1 to 3000, which is thirty seconds.
 pub const USUAL_THRESHOLD: u32 = 12;
 
+/// How many peaks a chain remembers, usually: the capacity of its rings. A capacity may be 1 to 16.
+pub const USUAL_RING: u32 = 4;
+
 /// The version of the archive's interface that this crate is written for: of its functions and its structs.
-pub const VERSION: u32 = 2;
+pub const VERSION: u32 = 3;
 
 /// Why a call was refused. Nothing changed then. Where several of the first four apply, the first in the order `Shape`,
 /// `Setting`, `Figure`, `Sample` is told.
@@ -56,8 +59,8 @@ pub enum Refusal {
     Figure,
     /// A sample that is not a number, infinite or too large: beyond 65536 for a chain, 33554432 for a limiter.
     Sample,
-    /// A setting out of its range, or a threshold that is not 1 to 3000. From a step, a gap or a reading only in a thread
-    /// that does not compute floats as it should ([`floats_ready`]).
+    /// A setting out of its range, a threshold that is not 1 to 3000, or a ring's capacity that is not 1 to 16. From a
+    /// step, a gap or a reading only in a thread that does not compute floats as it should ([`floats_ready`]).
     Setting,
     /// The archive that is linked has this version, and not [`VERSION`]. Told by `new`, which makes nothing then.
     Version(u32),
@@ -219,16 +222,20 @@ impl Chain {
     /// The threshold, 1 to 3000, is how many speech frames in a row make a reading. Until a run has so many, it is
     /// [`Answer::Waiting`], and what stood before stays published: with 3000 that is thirty seconds of unbroken speech.
     ///
+    /// The ring's capacity, 1 to 16, is how many peaks the chain remembers: each is the largest of 41 speech frames, and
+    /// the headroom goes by the oldest. [`USUAL_RING`] is the usual one, and a larger one is for a hall that echoes, where
+    /// the peak arrives late. It stays what it is as long as the chain does.
+    ///
     /// # Errors
     ///
     /// [`Refusal::Version`] where the archive has another version, then [`Refusal::Floats`] where this thread does not
     /// compute floats as it should; then [`Refusal::Shape`] where no frame has so many samples, then
-    /// [`Refusal::Setting`].
-    pub fn new(settings: &Settings, threshold: u32, samples: usize) -> Result<Chain, Refusal> {
+    /// [`Refusal::Setting`] for the settings, the threshold or the capacity.
+    pub fn new(settings: &Settings, threshold: u32, samples: usize, ring_capacity: u32) -> Result<Chain, Refusal> {
         Refusal::of_call()?;
         let mut state = library::Chain::default();
         // SAFETY: both references are to whole structs in the layout that the library has.
-        let reply = unsafe { library::murzicanu_chain_new(&mut state, settings, threshold, samples) };
+        let reply = unsafe { library::murzicanu_chain_new(&mut state, settings, threshold, samples, ring_capacity) };
         Refusal::of(reply).map(|()| Chain { state, samples })
     }
 

@@ -37,7 +37,8 @@ struct SpeechLevel {
 #[derive(Clone, Copy, Default)]
 #[repr(C)]
 struct Ring {
-    stored: [f32; 4],
+    stored: [f32; 16],
+    capacity: u32,
     place: u32,
     size: u32,
 }
@@ -146,20 +147,26 @@ const _: () = {
     assert!(size_of::<Answer>() == 4 * 4 && size_of::<Published>() == 4 * 4);
     assert!(size_of::<Average>() == 3 * 4);
     assert!(size_of::<SpeechLevel>() == 20 + 2 * 4 + 2 * 12 + 3 * 4);
-    assert!(size_of::<Ring>() == 4 * 4 + 2 * 4);
-    assert!(size_of::<Peaks>() == 4 + 24 + 2 * 4);
-    assert!(size_of::<Protector>() == 4 * 4 + 2 * 36);
+    assert!(size_of::<Ring>() == 16 * 4 + 3 * 4);
+    assert!(size_of::<Peaks>() == 4 + 76 + 2 * 4);
+    assert!(size_of::<Protector>() == 4 * 4 + 2 * 88);
     assert!(size_of::<Applier>() == 5 * 4);
     assert!(size_of::<Controller>() == 20 + 20 + 4 * 4);
     assert!(size_of::<Envelope>() == 3 * 4);
     assert!(size_of::<Curve>() == 4 * 8 + 2 * 4 + 8);
     assert!(size_of::<Limiter>() == 12 + 4 + 48);
-    assert!(size_of::<Chain>() == 64 + 88 + 56 + 64);
+    assert!(size_of::<Chain>() == 64 + 192 + 56 + 64);
 };
 
 extern "C" {
     pub fn murzicanu_version() -> u32;
-    pub fn murzicanu_chain_new(chain: *mut Chain, settings: *const Settings, threshold: u32, samples: usize) -> u32;
+    pub fn murzicanu_chain_new(
+        chain: *mut Chain,
+        settings: *const Settings,
+        threshold: u32,
+        samples: usize,
+        ring_capacity: u32,
+    ) -> u32;
     pub fn murzicanu_chain_step(
         chain: *mut Chain,
         figures: *const Figures,

@@ -1,7 +1,7 @@
 //! Tests of the library from Rust. MURZICANU_STRIP and MURZICANU_LINES name a strip and the lines that are due for it; where
 //! cargo builds the tests, they are otherwise the example of the repository.
 
-use murzicanu::{floats_ready, Answer, Chain, Figures, Limiter, Refusal, Settings, USUAL_THRESHOLD, VERSION};
+use murzicanu::{floats_ready, Answer, Chain, Figures, Limiter, Refusal, Settings, USUAL_RING, USUAL_THRESHOLD, VERSION};
 use std::arch::asm;
 use std::mem::{size_of, MaybeUninit};
 use std::path::{Path, PathBuf};
@@ -54,7 +54,7 @@ fn a_service_has_the_lines_that_are_due() {
         change: real(&rest[14..18]),
         noise: real(&rest[18..22]),
     };
-    let mut chain = Chain::new(&settings, threshold, samples).unwrap();
+    let mut chain = Chain::new(&settings, threshold, samples, USUAL_RING).unwrap();
     let (mut made, mut rest, mut number) = (String::new(), &rest[22..], 0);
     while !rest.is_empty() {
         let gap = version == 2 && rest.starts_with(&[0, 0]);
@@ -98,7 +98,7 @@ fn a_service_has_the_lines_that_are_due() {
 #[test]
 fn a_short_cough_leaves_no_trace_and_a_long_one_does() {
     let run = |cough: usize| {
-        let mut chain = Chain::new(&Settings::default(), USUAL_THRESHOLD, 480).unwrap();
+        let mut chain = Chain::new(&Settings::default(), USUAL_THRESHOLD, 480, USUAL_RING).unwrap();
         let mut heard = Vec::new();
         for k in 0..600 {
             let reading = k % 200 < 150;
@@ -118,10 +118,10 @@ fn a_short_cough_leaves_no_trace_and_a_long_one_does() {
 #[test]
 fn a_threshold_is_1_to_3000() {
     for threshold in [1, 200, 201, 3000] {
-        assert!(Chain::new(&Settings::default(), threshold, 480).is_ok(), "{threshold}");
+        assert!(Chain::new(&Settings::default(), threshold, 480, USUAL_RING).is_ok(), "{threshold}");
     }
     for threshold in [0, 3001, 65536 + 12, u32::MAX] {
-        assert_eq!(Chain::new(&Settings::default(), threshold, 480).err(), Some(Refusal::Setting), "{threshold}");
+        assert_eq!(Chain::new(&Settings::default(), threshold, 480, USUAL_RING).err(), Some(Refusal::Setting), "{threshold}");
     }
 }
 
@@ -135,7 +135,7 @@ fn a_threshold_of_3000_waits_for_thirty_seconds_of_speech() {
     let quiet = Figures { probability: 1.0, rms: -60.0, peak: -50.0, noise: -90.0, envelope: -60.0 };
     let pause = Figures { probability: 0.0, ..quiet };
     let settings = Settings { change: 0.5, ..Settings::default() };
-    let mut chain = Chain::new(&settings, 3000, 40).unwrap();
+    let mut chain = Chain::new(&settings, 3000, 40, USUAL_RING).unwrap();
     let (before, mut never) = (chain.published().unwrap(), chain.clone());
     for (k, answer) in heard(&mut chain, &quiet, 2999).into_iter().enumerate() {
         assert_eq!(answer, Answer::Waiting { missing: 2999 - k as u32 });
@@ -164,7 +164,7 @@ fn a_threshold_of_3000_waits_for_thirty_seconds_of_speech() {
 #[test]
 fn a_gap_ends_the_run_of_speech() {
     for threshold in [2, 12, 200] {
-        let mut chain = Chain::new(&Settings::default(), threshold, 40).unwrap();
+        let mut chain = Chain::new(&Settings::default(), threshold, 40, USUAL_RING).unwrap();
         let (before, mut other) = (chain.published().unwrap(), chain.clone());
         let run = threshold as usize - 1;
         // Two runs that both miss one frame: each frame of the second waits like that of the first.
@@ -182,7 +182,7 @@ fn a_gap_ends_the_run_of_speech() {
 
 #[test]
 fn a_gap_moves_no_published_figure_and_a_run_that_is_long_enough_is_kept() {
-    let mut chain = Chain::new(&Settings::default(), 12, 40).unwrap();
+    let mut chain = Chain::new(&Settings::default(), 12, 40, USUAL_RING).unwrap();
     for frames in 0..40 {
         let mut other = chain.clone();
         let before = chain.published().unwrap();
@@ -205,7 +205,7 @@ fn a_gap_moves_no_published_figure_and_a_run_that_is_long_enough_is_kept() {
 #[test]
 fn gaps_in_pauses_change_nothing() {
     let run = |gaps: usize| {
-        let mut chain = Chain::new(&Settings::default(), USUAL_THRESHOLD, 160).unwrap();
+        let mut chain = Chain::new(&Settings::default(), USUAL_THRESHOLD, 160, USUAL_RING).unwrap();
         let mut heard = Vec::new();
         for k in 0..400 {
             let speaks = k % 100 < 70;
@@ -224,7 +224,7 @@ fn gaps_in_pauses_change_nothing() {
 
 #[test]
 fn nothing_leaves_full_scale() {
-    let mut chain = Chain::new(&Settings::default(), 1, 480).unwrap();
+    let mut chain = Chain::new(&Settings::default(), 1, 480, USUAL_RING).unwrap();
     let mut limiter = Limiter::new(240).unwrap();
     for k in 0..200 {
         let mut frame = tone(65000.0, 480, 8, k);
@@ -239,11 +239,11 @@ fn nothing_leaves_full_scale() {
 
 #[test]
 fn a_refusal_has_its_number_and_changes_nothing() {
-    assert_eq!(Chain::new(&Settings::default(), 12, 441).err(), Some(Refusal::Shape));
-    assert_eq!(Chain::new(&Settings::default(), 0, 480).err(), Some(Refusal::Setting));
-    assert_eq!(Chain::new(&Settings { noise: -0.0, ..Settings::default() }, 12, 480).err(), Some(Refusal::Setting));
+    assert_eq!(Chain::new(&Settings::default(), 12, 441, USUAL_RING).err(), Some(Refusal::Shape));
+    assert_eq!(Chain::new(&Settings::default(), 0, 480, USUAL_RING).err(), Some(Refusal::Setting));
+    assert_eq!(Chain::new(&Settings { noise: -0.0, ..Settings::default() }, 12, 480, USUAL_RING).err(), Some(Refusal::Setting));
     assert_eq!(Limiter::new(500).err(), Some(Refusal::Shape));
-    let mut chain = Chain::new(&Settings::default(), 12, 160).unwrap();
+    let mut chain = Chain::new(&Settings::default(), 12, 160, USUAL_RING).unwrap();
     chain.step(&SPEECH, &mut tone(1000.0, 160, 2, 0), 2).unwrap();
     let (before, kept) = (chain.published().unwrap(), chain.clone());
     let mut frame = tone(1000.0, 160, 2, 1);
@@ -357,10 +357,10 @@ fn read_limiter(limiter: &library::Limiter, pattern: u8) -> (u32, Vec<u8>) {
     (reply, bytes(&level).to_vec())
 }
 
-fn new_chain(pattern: u8, settings: &Settings, threshold: u32, samples: usize) -> (u32, library::Chain) {
+fn new_chain(pattern: u8, settings: &Settings, threshold: u32, samples: usize, capacity: u32) -> (u32, library::Chain) {
     let mut chain = filled(pattern);
     // SAFETY: as above.
-    let reply = unsafe { library::murzicanu_chain_new(&mut chain, settings, threshold, samples) };
+    let reply = unsafe { library::murzicanu_chain_new(&mut chain, settings, threshold, samples, capacity) };
     (reply, chain)
 }
 
@@ -373,7 +373,7 @@ fn new_limiter(pattern: u8, samples: usize) -> (u32, library::Limiter) {
 
 /// A chain and a limiter that were made over a pattern and have heard some frames.
 fn made(pattern: u8, frames: usize) -> (library::Chain, library::Limiter) {
-    let (reply, mut chain) = new_chain(pattern, &Settings::default(), 12, SAMPLES);
+    let (reply, mut chain) = new_chain(pattern, &Settings::default(), 12, SAMPLES, USUAL_RING);
     let (other, mut limiter) = new_limiter(pattern, SAMPLES);
     assert_eq!((reply, other), (0, 0));
     for k in 0..frames {
@@ -385,11 +385,16 @@ fn made(pattern: u8, frames: usize) -> (library::Chain, library::Limiter) {
 
 /// Where the numbers of the kept chain and limiter stand, as the header's assertions have it.
 const CONFIDENT: usize = 56;
-const PLACE: usize = 64 + 52 + 20;
-const CLIP: usize = 64 + 88;
-const OF_LIMITER: usize = 64 + 88 + 56;
+const RINGS: [usize; 2] = [64 + 16 + 4, 64 + 104 + 4];
+const CLIP: usize = 64 + 192;
+const OF_LIMITER: usize = 64 + 192 + 56;
 const OWN_SAMPLES: usize = 4;
 const AVAILABLE: usize = 16 + 32;
+
+/// Where the numbers of a ring stand in it, after its slots.
+const CAPACITY: usize = 64;
+const PLACE: usize = 68;
+const SIZE: usize = 72;
 
 #[test]
 fn the_archive_has_the_version_of_the_crate() {
@@ -418,8 +423,8 @@ fn a_thread_with_other_floats_is_refused() {
     let all = || {
         // The settings and the samples are wrong as well: the floats are told first.
         let wrong = Settings { noise: 1.0, ..Settings::default() };
-        let (chain, limiter) = (Chain::new(&Settings::default(), 12, 480).err(), Limiter::new(480).err());
-        (floats_ready(), chain, limiter, Chain::new(&wrong, 12, 480).err(), Limiter::new(500).err())
+        let (chain, limiter) = (Chain::new(&Settings::default(), 12, 480, USUAL_RING).err(), Limiter::new(480).err());
+        (floats_ready(), chain, limiter, Chain::new(&wrong, 12, 480, USUAL_RING).err(), Limiter::new(500).err())
     };
     let ready = (true, None, None, Some(Refusal::Setting), Some(Refusal::Shape));
     let none = Some(Refusal::Floats);
@@ -450,7 +455,7 @@ fn every_byte_is_determined() {
         (Settings::default(), 0, SAMPLES, 4),
         (Settings { noise: -0.0, ..Settings::default() }, 12, SAMPLES, 4),
     ] {
-        let (reply, chain) = new_chain(0xAA, &settings, threshold, samples);
+        let (reply, chain) = new_chain(0xAA, &settings, threshold, samples, USUAL_RING);
         assert_eq!(reply, due);
         assert!(bytes(&chain).iter().all(|b| *b == 0));
     }
@@ -470,7 +475,15 @@ fn each_kind_of_refusal_changes_no_byte() {
     assert_eq!(step(&mut chain, &SPEECH, &mut frame, CHANNELS, SAMPLES), 3);
     assert_eq!(limit(&mut limiter, &mut frame, CHANNELS, SAMPLES), 3);
     frame[LENGTH - 1] = 0.0;
-    for (place, byte) in [(CONFIDENT, 2), (PLACE, 4), (CLIP + 3, 1), (OF_LIMITER + OWN_SAMPLES + 6, 1), (OF_LIMITER + AVAILABLE, 7)] {
+    let [_, reliable] = RINGS;
+    for (place, byte) in [
+        (CONFIDENT, 2),
+        (reliable + CAPACITY, 5),
+        (reliable + PLACE, 4),
+        (CLIP + 3, 1),
+        (OF_LIMITER + OWN_SAMPLES + 6, 1),
+        (OF_LIMITER + AVAILABLE, 7),
+    ] {
         let mut other = chain;
         bytes_mut(&mut other)[place] = byte;
         assert_eq!(step(&mut other, &SPEECH, &mut frame, CHANNELS, SAMPLES), 4, "byte {place}");
@@ -489,6 +502,111 @@ fn each_kind_of_refusal_changes_no_byte() {
     assert_eq!(gap(&mut chain), 0);
     assert_eq!(read_chain(&filled(0), 0xAA).0, 4);
     assert_eq!(read_limiter(&filled(0), 0xAA).0, 4);
+}
+
+/// A number of 32 bits that stands in a chain.
+fn number(chain: &library::Chain, at: usize) -> u32 {
+    u32::from_ne_bytes(bytes(chain)[at..at + 4].try_into().unwrap())
+}
+
+/// The chain with other numbers there.
+fn with(mut chain: library::Chain, numbers: &[(usize, u32)]) -> library::Chain {
+    for (at, number) in numbers {
+        bytes_mut(&mut chain)[*at..at + 4].copy_from_slice(&number.to_ne_bytes());
+    }
+    chain
+}
+
+/// A step, a gap and a reading of a chain that fails its test: each is refused with 4, and none changes a byte.
+fn fails(mut chain: library::Chain) -> bool {
+    step(&mut chain, &SPEECH, &mut tone(20000.0, SAMPLES, CHANNELS, 0), CHANNELS, SAMPLES) == 4
+        && gap(&mut chain) == 4
+        && read_chain(&chain, 0xAA) == (4, vec![0; 16])
+}
+
+#[test]
+fn a_ring_holds_1_to_16_peaks() {
+    for capacity in 1..=16 {
+        assert!(Chain::new(&Settings::default(), 12, 480, capacity).is_ok(), "{capacity}");
+        let (reply, mut chain) = new_chain(0xAA, &Settings::default(), 12, SAMPLES, capacity);
+        assert_eq!((reply, RINGS.map(|ring| number(&chain, ring + CAPACITY))), (0, [capacity; 2]));
+        assert_eq!(bytes(&chain), bytes(&new_chain(0x55, &Settings::default(), 12, SAMPLES, capacity).1));
+        assert_eq!(gap(&mut chain), 0);
+    }
+    for capacity in [0, 17, 65536 + 4, u32::MAX] {
+        assert_eq!(Chain::new(&Settings::default(), 12, 480, capacity).err(), Some(Refusal::Setting), "{capacity}");
+        // The samples are none as well: that is told first.
+        assert_eq!(Chain::new(&Settings::default(), 12, 441, capacity).err(), Some(Refusal::Shape), "{capacity}");
+        let (reply, chain) = new_chain(0xAA, &Settings::default(), 12, SAMPLES, capacity);
+        assert_eq!(reply, 4);
+        assert!(bytes(&chain).iter().all(|b| *b == 0));
+    }
+}
+
+#[test]
+fn two_rings_of_unlike_capacity_are_refused() {
+    // After 20 frames each of these capacities has the place, the size and the slots that are there, so that only the two
+    // that differ are refused.
+    let (chain, _) = made(0xAA, 20);
+    let rings = |first, second| with(chain, &[(RINGS[0] + CAPACITY, first), (RINGS[1] + CAPACITY, second)]);
+    for n in 1..=16 {
+        assert_eq!(gap(&mut rings(n, n)), 0);
+        assert!((1..=16).all(|m| n == m || fails(rings(n, m))), "{n}");
+    }
+    assert!([0, 17, 65536 + 4, u32::MAX].into_iter().all(|n| fails(rings(n, n))));
+    assert!(RINGS.into_iter().all(|ring| fails(with(chain, &[(ring + PLACE, 4)])) && fails(with(chain, &[(ring + SIZE, 5)]))));
+}
+
+#[test]
+fn what_stands_in_the_slots_from_the_capacity_on_stays_and_changes_nothing_else() {
+    for capacity in [1, 4, 9, 15, 16] {
+        let (reply, mut chain) = new_chain(0xAA, &Settings::default(), 12, SAMPLES, capacity);
+        assert_eq!(reply, 0);
+        // Numbers and none, quiet and signalling.
+        let beyond: Vec<(usize, u32)> = (capacity..16)
+            .flat_map(|i| {
+                let drawn = [0x7FC0_0000 + i, u32::MAX, 0x7F80_0000, 0x7F80_0001 + i, 0xCAFE_F00D][i as usize % 5];
+                RINGS.map(|ring| (ring + 4 * i as usize, drawn))
+            })
+            .collect();
+        let mut other = with(chain, &beyond);
+        for k in 0..400 {
+            let figures = if k % 100 < 90 { &SPEECH } else { &PAUSE };
+            let (mut frame, mut sound) = (tone(20000.0, SAMPLES, CHANNELS, k), tone(20000.0, SAMPLES, CHANNELS, k));
+            assert_eq!(step(&mut chain, figures, &mut frame, CHANNELS, SAMPLES), 0);
+            assert_eq!(step(&mut other, figures, &mut sound, CHANNELS, SAMPLES), 0);
+            assert_eq!((bits(&frame), read_chain(&chain, 0xAA)), (bits(&sound), read_chain(&other, 0xAA)));
+            if k % 130 == 129 {
+                assert_eq!((gap(&mut chain), gap(&mut other)), (0, 0));
+            }
+        }
+        assert!(number(&chain, RINGS[1] + SIZE) > 0);
+        assert!(beyond.iter().all(|(at, drawn)| number(&other, *at) == *drawn));
+        assert_eq!(bytes(&with(chain, &beyond)), bytes(&other));
+        // The last slot that is the ring's own.
+        assert!(RINGS.into_iter().all(|ring| fails(with(chain, &[(ring + 4 * (capacity as usize - 1), f32::NAN.to_bits())]))));
+    }
+}
+
+/// At which frame of speech, counted from 1, two chains first differ in what a frame was that differ in their rings alone.
+/// Each 41 frames have another peak than the 41 before them.
+fn apart(one: u32, other: u32) -> Option<usize> {
+    let made = |capacity| Chain::new(&Settings::default(), 1, 40, capacity).unwrap();
+    let (mut first, mut second) = (made(one), made(other));
+    (1..=700).find(|k| {
+        let peak = if (k - 1) / 41 % 2 == 0 { -6.0 } else { -7.0 };
+        let figures = Figures { probability: 1.0, rms: -28.0, peak, ..SPEECH };
+        heard(&mut first, &figures, 1) != heard(&mut second, &figures, 1)
+    })
+}
+
+#[test]
+fn a_ring_drops_its_oldest_peak_when_it_is_full_and_not_before() {
+    // At its push n + 1 the ring of n drops the peak that one of 16 still goes by.
+    for n in 1..16 {
+        assert_eq!(apart(n, 16), Some(41 * (n as usize + 1)), "{n}");
+    }
+    assert_eq!((apart(USUAL_RING, 16), apart(USUAL_RING, 4), apart(16, 16)), (Some(205), None, None));
 }
 
 #[test]
@@ -696,7 +814,7 @@ fn random_histories_with_gaps_and_their_twins_come_out_alike() {
         };
         let (first, second, open) = twins(&mut random, threshold, channels * samples, &mut counts);
         let made = |pattern| {
-            let (reply, chain) = new_chain(pattern, &settings, threshold as u32, samples);
+            let (reply, chain) = new_chain(pattern, &settings, threshold as u32, samples, 1 + round as u32 % 16);
             assert_eq!(reply, 0);
             chain
         };

@@ -20,6 +20,7 @@ use Rattle.frames.specs.Samples.{largestInput, largestLevel}
 use Rattle.frames.specs.Shape.{isSamples}
 use Rattle.gain_applier.specs.Range.{Held}
 use Rattle.speech_level_estimator.specs.Estimator as Level
+use Rattle.saturation_protector_buffer.specs.Ring.{isCapacity}
 use Rattle.fixed_digital_level_estimator.specs.Estimator as Envelope
 use Rattle.adaptive_digital_gain_controller.specs.Range.{HeldSettings}
 use Rattle.limiter.specs.Limiter as Limiting
@@ -138,18 +139,18 @@ limiter-failing k frame channels samples h ok =
 
 -- ---- the chain
 -- A new chain that is not refused passes, and the numbers of the chain inside are f32.
-module _ (s : Set) (t samples : ℕ) (held : HeldSettings s) (ok : chainMade s t samples .reply ≡ done) where
-  new-ready : ChainHeld.Ready (Chaining.made s t samples .chain)
+module _ (s : Set) (t samples capacity : ℕ) (held : HeldSettings s) (ok : chainMade s t samples capacity .reply ≡ done) where
+  new-ready : ChainHeld.Ready (Chaining.made s t samples capacity .chain)
   unfolding chainMade
-  new-ready = ChainStart.made-ready s t samples held ok
+  new-ready = ChainStart.made-ready s t samples capacity held ok
 
-  pub chain-made-ready : ChainHeld.Ready (chainOf (chainMade s t samples .chain))
+  pub chain-made-ready : ChainHeld.Ready (chainOf (chainMade s t samples capacity .chain))
   unfolding chainMade
-  chain-made-ready = subst ChainHeld.Ready (sym (chain-kept (Chaining.made s t samples .chain) (new-ready .state))) new-ready
+  chain-made-ready = subst ChainHeld.Ready (sym (chain-kept (Chaining.made s t samples capacity .chain) (new-ready .state))) new-ready
 
-  pub chain-made-passes : chainPasses (chainMade s t samples .chain) ≡ true
+  pub chain-made-passes : chainPasses (chainMade s t samples capacity .chain) ≡ true
   unfolding chainMade
-  chain-made-passes = kept-chain-passes (Chaining.made s t samples .chain) (new-ready .state)
+  chain-made-passes = kept-chain-passes (Chaining.made s t samples capacity .chain) (new-ready .state)
 
 -- Where the numbers that come in are f32, so it does after each step that was done.
 module _ (k : KeptChain) (f : Figures) (frame : List Float) (channels samples : ℕ) (held : ChainHeld.HeldChain (chainOf k)) (figures : ChainHeld.HeldFigures f) (sound : Held frame)
@@ -204,10 +205,11 @@ unfolding chainPasses
 kept-nothing-fails = ap₂ _&&_ (kept-chain-sound Chaining.nothing) (ap Chains.passes (chain-small-kept Chaining.nothing nothing-small) ∙ nothing-fails)
 
 -- A new chain that is refused fails.
-pub chain-not-made : (s : Set) (t samples : ℕ) → (chainMade s t samples .reply ≡ done → ⊥) → chainPasses (chainMade s t samples .chain) ≡ false
+pub chain-not-made : (s : Set) (t samples capacity : ℕ) → (chainMade s t samples capacity .reply ≡ done → ⊥) → chainPasses (chainMade s t samples capacity .chain) ≡ false
 unfolding chainMade Chaining.made
-chain-not-made s t samples n =
-    ap (λ (b : Bool). chainPasses (keptChain (cond b (Chaining.fresh s t samples) Chaining.nothing))) (one-fails (isSamples samples) (Settings.accepted s && Settings.threshold t) n)
+chain-not-made s t samples capacity n =
+    ap (λ (b : Bool). chainPasses (keptChain (cond b (Chaining.fresh s t samples capacity) Chaining.nothing)))
+    (one-fails (isSamples samples) (Settings.accepted s && Settings.threshold t && isCapacity capacity) n)
     ∙ kept-nothing-fails
 
 -- A chain that fails is taken by no step.
