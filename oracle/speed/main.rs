@@ -278,7 +278,7 @@ mod library {
 
     fn level(frame: &mut Frame, ask: &Ask) -> u32 {
         let settings = murzicanu::Settings::default();
-        let mut chain = murzicanu::Chain::new(&settings, THRESHOLD as u32, ask.samples).unwrap();
+        let mut chain = murzicanu::Chain::new(&settings, THRESHOLD as u32, ask.samples, murzicanu::USUAL_RING).unwrap();
         let d = over_frames(frame, ask, |frame, given| {
             let Figures { probability, rms, peak, noise, envelope } = given.figures;
             let figures = murzicanu::Figures { probability, rms, peak, noise, envelope };

@@ -10,6 +10,9 @@
 //! have gaps. The Rust has none: its level and headroom get a frame that is no speech, and what its controller does is document
 //! 02's rule; a gap must not change what is published.
 //!
+//! The services run with rings of the Rust's size; a few have rings of another, and these run by documents 01 and 02 alone. Some are as
+//! long as it takes to go round the ring, and their peaks are near enough to their speech for each to move the headroom.
+//!
 //! Any state can be handed in. One that fails document 01's test is refused with 4, and then stands as it came; one
 //! that passes goes on by document 01 alone, and those frames are counted apart.
 //!
@@ -156,7 +159,7 @@ struct State {
 /// Where the figures of the parts stand in those of a chain, behind the limiter's, and those of the settings and thresholds.
 const SPEECH: usize = 16;
 const PROTECTOR: usize = SPEECH + 16;
-const CONTROLLER: usize = PROTECTOR + 22;
+const CONTROLLER: usize = PROTECTOR + 48;
 const STATE: usize = CONTROLLER + 14;
 const SETTINGS: [usize; 2] = [SPEECH, CONTROLLER + 5];
 const THRESHOLDS: [usize; 3] = [SPEECH + 5, PROTECTOR + 1, CONTROLLER + 10];
@@ -187,10 +190,11 @@ const ALIKE: [&str; 5] = [
 ];
 
 impl State {
-    fn new(settings: Settings, threshold: u32, samples: u32) -> State {
+    /// "The chain takes it beside the strip's settings": the ring's size.
+    fn new(settings: Settings, threshold: u32, samples: u32, capacity: u32) -> State {
         State {
             speech: speech::State::new(settings, threshold),
-            protector: protector::State::new(INITIAL, threshold),
+            protector: protector::State::new(INITIAL, threshold, capacity),
             controller: controller::State::new(settings, threshold),
             limiter: limiter::State::new(samples),
         }
@@ -238,20 +242,21 @@ impl State {
     }
 
     /// "Protector and controller take this same frame's published level, the controller its headroom too." Answers
-    /// what the frame was: "P carries the level and headroom, a W how many frames are missing".
-    fn step(&mut self, figures: &Figures, channels: &mut [Vec<f32>]) -> Option<[u32; 4]> {
+    /// what the frame was, "P carries the level and headroom, a W how many frames are missing"; and what the protector does.
+    fn step(&mut self, figures: &Figures, channels: &mut [Vec<f32>]) -> Option<([u32; 4], Option<bool>)> {
         let [p, rms, peak, ..] = figures.map(f32::from_bits);
         self.speech.update(rms, p);
         let level = self.speech.level;
-        self.protector.analyze(p, peak, level);
+        let pushed = self.protector.analyze(p, peak, level);
         let known = [figures[0], bits(level), self.speech.confident as u32, figures[3], bits(self.protector.headroom), figures[4]];
         self.controller.process(&controller::Info(known), channels)?;
         self.limiter.process(channels);
-        Some(match (judge::is_speech(p), self.speech.threshold - self.speech.count) {
+        let case = match (judge::is_speech(p), self.speech.threshold - self.speech.count) {
             (false, _) => [0; 4],
             (true, 0) => [2, 0, bits(level), bits(self.protector.headroom)],
             (true, missing) => [1, missing, 0, 0],
-        })
+        };
+        Some((case, pushed))
     }
 
     /// A gap: "Demands 2 and 3 read a gap as a non-speech frame without sound or gain step".
@@ -354,14 +359,15 @@ fn clauses_of(figures: &[u32]) -> Option<Vec<Clause>> {
     Some(State::read(figures)?.clauses())
 }
 
-/// A reading or a cough, with the pause that closes it: how many frames of speech and of pause, and what
-/// their rms, peak, noise and envelope are drawn near to.
+/// A reading or a cough, with the pause that closes it: how many frames of speech and of pause, what
+/// their rms, peak, noise and envelope are drawn near to, and whether rms and peak stay there.
 #[derive(Clone, Copy)]
 pub struct Passage {
     pub cough: bool,
     pub length: u32,
     pub pause: u32,
     middles: [f32; 4],
+    stays: bool,
 }
 
 impl Passage {
@@ -391,7 +397,32 @@ impl Passage {
             length,
             pause,
             middles,
+            stays: false,
         }
+    }
+
+    /// One of so many frames whose peaks lie above the speech by about what the headroom can be, and by more or less than those of
+    /// others: so each peak that is the oldest moves the headroom in its own way.
+    pub fn near(length: u32, threshold: u32, source: &mut Random) -> Passage {
+        let mut passage = Passage::of(length, threshold, source);
+        passage.middles[0] = -41.0;
+        passage.middles[1] = -31.0 + 16.0 * judge::fraction(source);
+        passage.stays = true;
+        passage
+    }
+
+    /// Readings, each with a cough behind it, until the readings have so many frames of speech.
+    pub fn many_near(threshold: u32, frames: u32, source: &mut Random) -> Vec<Passage> {
+        let (mut all, mut speech) = (Vec::new(), 0);
+        while speech < frames {
+            let length = threshold + source.up_to(120);
+            speech += length;
+            all.push(Passage::near(length, threshold, source));
+            if threshold > 1 {
+                all.push(Passage::near(threshold - 1, threshold, source));
+            }
+        }
+        all
     }
 
     /// The same with so many frames of speech and of pause.
@@ -406,13 +437,18 @@ impl Passage {
 
     /// The figures of one of its frames.
     pub fn figures(&self, speech: bool, source: &mut Random) -> Figures {
-        [
+        let mut all = [
             judge::probability(speech, source),
             RMS.any(self.middles[0], source),
             LEVEL.any(self.middles[1], source),
             LEVEL.any(self.middles[2], source),
             ENVELOPE.any(self.middles[3], source),
-        ]
+        ];
+        if self.stays {
+            all[1] = (self.middles[0] + 2.0 * judge::fraction(source)).to_bits();
+            all[2] = (self.middles[1] + judge::fraction(source)).to_bits();
+        }
+        all
     }
 }
 
@@ -471,6 +507,8 @@ struct Desk {
     long: [usize; 2],
     /// Gaps that are not refused, and of them those that close a cough.
     gaps: [usize; 2],
+    /// Frames that push with the Rust beside, and those of them into a full ring.
+    pushes: [usize; 2],
 }
 
 impl Desk {
@@ -502,22 +540,28 @@ impl Desk {
         to(lines::question(name, figures), lines::answer(&all))
     }
 
+    /// A new chain with rings of the Rust's size.
     fn fresh(&mut self, settings: Settings, threshold: u32, samples: u32, to: Ask) -> bool {
+        self.fresh_with(settings, threshold, samples, judge::ring(), to)
+    }
+
+    /// One with rings of any size, which is a setting. The Rust goes along where it has such rings.
+    fn fresh_with(&mut self, settings: Settings, threshold: u32, samples: u32, capacity: u32, to: Ask) -> bool {
         let reply = if !sound::is_samples(samples) {
             SHAPE
-        } else if !(settings.accepted() && judge::is_threshold(threshold)) {
+        } else if !(settings.accepted() && judge::is_threshold(threshold) && judge::is_capacity(capacity)) {
             SETTING
         } else {
             DONE
         };
-        self.state = if reply == DONE { State::new(settings, threshold, samples) } else { State::default() };
-        self.rust = (reply == DONE).then(|| Both {
+        self.state = if reply == DONE { State::new(settings, threshold, samples, capacity) } else { State::default() };
+        self.rust = (reply == DONE && capacity == judge::ring()).then(|| Both {
             ruled: ruled::Chain::new(&settings, threshold, samples),
             as_is: as_is::Chain::new(&settings, threshold, samples),
         });
         self.others += 1;
         let mut figures = settings.0.to_vec();
-        figures.extend([threshold, samples]);
+        figures.extend([threshold, samples, capacity]);
         self.put("chain.new", &figures, reply, [0; 4], &[], to)
     }
 
@@ -529,10 +573,14 @@ impl Desk {
         Some(self.put("chain.set", figures, DONE, [0; 4], &[], to))
     }
 
-    /// Hands the state in that there is: the Rust goes on.
+    /// Hands the state in that there is, every second time with any bits in the slots of the rings that the Rust does not have: the Rust
+    /// goes on.
     fn set_again(&mut self, to: Ask) -> bool {
         self.others += 1;
         self.again += 1;
+        if self.again % 2 == 0 {
+            self.state.protector.litter(&mut Random::new(self.again as u64));
+        }
         let figures = self.state.figures();
         self.put("chain.set", &figures, DONE, [0; 4], &[], to)
     }
@@ -591,7 +639,11 @@ impl Desk {
         if reply == DONE {
             let mut sound = frame.sound();
             match self.state.step(figures, &mut sound) {
-                Some(what) => case = what,
+                Some((what, pushed)) => {
+                    case = what;
+                    self.pushes[0] += (self.rust.is_some() && pushed.is_some()) as usize;
+                    self.pushes[1] += (self.rust.is_some() && pushed == Some(true)) as usize;
+                }
                 None => judge::object(&mut self.unlike, "no applier in a chain".to_string()),
             }
             samples = sound::flat(&sound);
@@ -624,9 +676,14 @@ impl Desk {
         Some(outcome.unwrap_or(([0; 4], Vec::new())))
     }
 
-    /// A service, as it is and without its coughs. What comes out must be the same.
+    /// A service with rings of the Rust's size, as it is and without its coughs. What comes out must be the same.
     fn service(&mut self, settings: Settings, threshold: u32, samples: u32, steps: &[Step], source: &mut Random, to: Ask) -> bool {
-        if !self.fresh(settings, threshold, samples, to) {
+        self.service_with(judge::ring(), settings, threshold, samples, steps, source, to)
+    }
+
+    /// The same with rings of any size.
+    fn service_with(&mut self, capacity: u32, settings: Settings, threshold: u32, samples: u32, steps: &[Step], source: &mut Random, to: Ask) -> bool {
+        if !self.fresh_with(settings, threshold, samples, capacity, to) {
             return false;
         }
         let mut outcomes = Vec::new();
@@ -650,7 +707,7 @@ impl Desk {
                 return false;
             }
         }
-        if !self.fresh(settings, threshold, samples, to) {
+        if !self.fresh_with(settings, threshold, samples, capacity, to) {
             return false;
         }
         for (i, (step, before)) in steps.iter().zip(&outcomes).enumerate() {
@@ -794,6 +851,20 @@ impl Desk {
         self.service(settings, threshold, samples, &steps, source, to)
     }
 
+    /// A service of one channel that fills the ring of the Rust's size and then goes round it several times.
+    fn round_service(&mut self, threshold: u32, source: &mut Random, to: Ask) -> bool {
+        let mut steps = Vec::new();
+        for passage in Passage::many_near(threshold, judge::frames_of_rounds(), source) {
+            self.add_steps(&passage, 1, 40, source, &mut steps);
+        }
+        let full = self.pushes[1];
+        let going = self.service(Settings::USUAL, threshold, 40, &steps, source, to);
+        if going && self.pushes[1] - full < 2 * judge::rounds() as usize {
+            judge::object(&mut self.unlike, format!("T {}: {} pushes into a full ring", threshold, self.pushes[1] - full));
+        }
+        going
+    }
+
     /// A cough and a reading over which there is far to go from the initial gain, with a change per second: in the reading's
     /// T-th frame the gain makes its first faster step, and not before.
     fn faster(&mut self, threshold: u32, change: f32, source: &mut Random, to: Ask) -> bool {
@@ -912,6 +983,12 @@ impl Desk {
             && self.step(&GOOD, &good, to).is_some()
             && [0, 20, 50, 500].iter().all(|&n| self.fresh(Settings::USUAL, judge::LARGEST_THRESHOLD + 1, n, to))
             && judge::GOOD_THRESHOLDS.iter().all(|&t| self.fresh(Settings::USUAL, t, 40, to))
+            && judge::WRONG_CAPACITIES.iter().all(|&n| self.fresh_with(Settings::USUAL, 2, 40, n, to))
+            && self.step(&GOOD, &good, to).is_some()
+            && [0, 50].iter().all(|&n| self.fresh_with(Settings::USUAL, 2, n, judge::LARGEST_RING + 1, to))
+            && self.fresh_with(Settings::USUAL, 0, 40, 0, to)
+            && (1..=judge::LARGEST_RING).all(|n| self.fresh_with(Settings::USUAL, 2, 40, n, to) && self.step(&GOOD, &good, to).is_some())
+            && self.look(to)
             && self.fresh(Settings::USUAL, 2, 40, to);
         for frame in sound::damaged(&good, LARGEST) {
             going = going && self.step(&GOOD, &frame, to).is_some();
@@ -984,13 +1061,16 @@ impl Part for Chains {
     fn ask(&mut self, to: Ask) {
         let source = &mut Random::new(self.seed);
         let desk = &mut self.desk;
-        let wanted = self.length.frames(10_000, 1_000_000, 80_000);
         let mut going = self.length == Length::Round
             || (desk.damaged(source, to) && desk.at_edges(false, &mut Random::new(self.seed), to));
         if self.length == Length::States {
             return;
         }
-        going = going && (self.length == Length::Round || [2, 3, 12, 40].iter().all(|&t| desk.broken(t, source, to)));
+        going = going
+            && (self.length == Length::Round
+                || ([2, 3, 12, 40].iter().all(|&t| desk.broken(t, source, to))
+                    && [1, 12, 60].iter().all(|&t| desk.round_service(t, source, to))));
+        let wanted = desk.frames[0] + self.length.frames(10_000, 1_000_000, 80_000);
         while going && desk.frames[0] < wanted {
             let threshold = judge::short_threshold(source);
             let (channels, samples) = match source.up_to(63) {
@@ -1005,8 +1085,8 @@ impl Part for Chains {
             } else {
                 desk.steps(threshold, channels, samples, most as usize, source)
             };
-            let settings = Settings::any(source);
-            going = desk.service(settings, threshold, samples, &steps, source, to)
+            let (settings, capacity) = (Settings::any(source), judge::any_capacity(source));
+            going = desk.service_with(capacity, settings, threshold, samples, &steps, source, to)
                 && (self.length != Length::Round || source.up_to(15) > 0 || desk.damaged(source, to));
         }
         let _ = going
@@ -1022,7 +1102,7 @@ impl Part for Chains {
         let desk = &mut self.desk;
         Some(match (name, figures) {
             ("chain.new", all) => match Settings::read(all)? {
-                (settings, &[threshold, samples]) => desk.fresh(settings, threshold, samples, to),
+                (settings, &[threshold, samples, capacity]) => desk.fresh_with(settings, threshold, samples, capacity, to),
                 _ => return None,
             },
             ("chain.set", state) => desk.set(state, to)?,
@@ -1062,6 +1142,8 @@ impl Part for Chains {
             ("accepted frames by the paper alone", desk.by_hand),
             ("frames of services as they are with T above 200", desk.long[0]),
             ("first faster steps above 200 changes of a frame", desk.long[1]),
+            ("pushes with the Rust beside", desk.pushes[0]),
+            ("of them into a full ring", desk.pushes[1]),
         ]
     }
 

@@ -1,11 +1,60 @@
 //! What the parts that judge have in common (the level of the speech, the protector and the controller):
-//! settings, thresholds, runs of speech frames, figures at the ends of their ranges, and the Rust's
-//! `Debug` form.
+//! settings, thresholds, the ring's size, runs of speech frames, figures at the ends of their ranges, and
+//! the Rust's `Debug` form.
 
 use crate::clauses::{Clause, Edges};
 use crate::drive::{Ask, Length};
 use crate::lines::{bits, DONE, FIGURE, SAMPLE, SETTING, SHAPE};
 use crate::random::Random;
+use sonora_as_is::saturation_protector_buffer::SaturationProtectorBuffer as AsItStands;
+use sonora_ruled::saturation_protector_buffer::SaturationProtectorBuffer as Ruled;
+
+/// "Let the peak ring hold 1 to 16 entries": the largest capacity, and as many slots has every ring.
+pub const LARGEST_RING: u32 = 16;
+
+/// "with 4 as the default".
+pub const DEFAULT_RING: u32 = 4;
+
+/// How many peaks a ring of the Rust holds that this oracle is built over: as published, or as oracle/build was asked for. Both
+/// copies of it hold as many.
+pub fn ring() -> u32 {
+    let both = [Ruled::default().capacity(), AsItStands::default().capacity()];
+    assert_eq!(both[0], both[1], "the two copies of the Rust hold so many peaks");
+    both[0] as u32
+}
+
+pub fn is_capacity(n: u32) -> bool {
+    (1..=LARGEST_RING).contains(&n)
+}
+
+/// Beside the ends, and far from them: also what ends as a capacity does.
+pub const WRONG_CAPACITIES: [u32; 8] = [0, LARGEST_RING + 1, 18, 32, 0x104, 0x1_0010, 1 << 31, u32::MAX];
+
+/// Any capacity from 1 to 16, and in most cases the Rust's.
+pub fn any_capacity(source: &mut Random) -> u32 {
+    match source.up_to(7) {
+        0 => 1 + source.up_to(LARGEST_RING - 1),
+        _ => ring(),
+    }
+}
+
+/// How many peaks a sequence pushes into a full ring of the Rust: three times round it, and not fewer than a dozen.
+pub fn rounds() -> u32 {
+    3 * ring().max(4)
+}
+
+/// How many frames of speech that takes, in readings, from a new ring: "40 speech frames push nothing, the 41st pushes".
+pub fn frames_of_rounds() -> u32 {
+    41 * (ring() + rounds())
+}
+
+/// A capacity that is refused.
+pub fn wrong_capacity(source: &mut Random) -> u32 {
+    match source.up_to(3) {
+        0 => LARGEST_RING + 1 + source.up_to(u32::MAX - LARGEST_RING - 1),
+        _ => one_of(&WRONG_CAPACITIES, source),
+    }
+}
 
 /// "a run threshold of up to 3,000 frames": the largest threshold of a chain and of each of its parts.
 pub const LARGEST_THRESHOLD: u32 = 3000;

@@ -3,13 +3,14 @@
 //! this program writes them.
 
 use crate::drive::Pair;
+use crate::lines;
 use crate::{applier, chain, controller, curve, estimator, limiter, protector, ratio, ring, speech};
 
 /// The seed of the list's random questions.
 const SEED: u64 = 1;
 
 /// Lines that are no question: each is answered ?.
-const NOT_ASKED: [&str; 70] = [
+const NOT_ASKED: [&str; 74] = [
     "",
     " ",
     ".",
@@ -41,6 +42,8 @@ const NOT_ASKED: [&str; 70] = [
     "41a00000",
     "ring",
     "ring.",
+    "ring.new",
+    "ring.new 00000004 00000004",
     "ring.push",
     "ring.pus 3f800000",
     "ring.keep 3f800000",
@@ -62,18 +65,20 @@ const NOT_ASKED: [&str; 70] = [
     "speech.update c2200000 3f800000 3f800000",
     "speech.new 40a00000 42480000 41700000 40c00000 c2480000",
     "protector.analyze 3f800000 c1a00000",
-    "protector.new 41a00000",
+    "protector.new 41a00000 00000002",
+    "protector.new 41a00000 00000002 00000004 00000004",
     "controller.new 40a00000 42480000 41700000 40c00000 c2480000",
     "controller.process 00000001 00000028",
     "controller.process 00000001 00000028 3f800000 c2200000 00000001 c2b40000 41a00000",
     "chain",
-    "chain.new 40a00000 42480000 41700000 40c00000 c2480000 00000002",
+    "chain.new 40a00000 42480000 41700000 40c00000 c2480000 00000002 00000028",
+    "chain.new 40a00000 42480000 41700000 40c00000 c2480000 00000002 00000028 00000004 00000004",
     "chain.step 00000001 00000028 3f800000 c2200000 c1a00000 c2b40000",
     "chain.set",
     "chain.set 40a00000 42480000 41700000 40c00000 c2480000 00000002 00000028",
     "chain.state 00000000",
     "chain.states",
-    "n0=ring.new",
+    "n1=ring.new 00000004",
     "speech.gap 00000000",
     "protector.gap 00000000",
     "controller.gap 00000000",
@@ -102,6 +107,12 @@ fn list() -> Result<Vec<Pair>, String> {
     unlike.extend(chain::list(SEED, &mut to));
     for line in NOT_ASKED {
         to(line.to_string(), "?".to_string());
+    }
+    // A state with a figure too few or too many, and one as it was when every ring had four slots.
+    for (name, figures) in [("ring.set", [6, 18, 20]), ("protector.set", [22, 47, 49]), ("chain.set", [68, 93, 95])] {
+        for n in figures {
+            to(lines::question(name, &vec![0; n]), "?".to_string());
+        }
     }
     // Too many digits or figures. Lines as long as the program's own buffer are in tests/.
     for length in [63, 64, 1000] {

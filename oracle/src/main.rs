@@ -29,6 +29,10 @@
 //!                                         many random ones (2000), and compares what it writes and tells
 //!   oracle recording STRIP                reads a WAV file, and writes what the program `recording` must write
 //!
+//! Everything runs with rings of the size of the Rust that the oracle is built over: 4, as published, or what `oracle/build --ring`
+//! was asked for. So `target/oracle/ring-16/oracle strip` has what `strip --ring 16` must print. Rings, protectors and chains of other
+//! sizes are asked about too, and are held to documents 01 and 02 alone. The fixed list is that of the build as published.
+//!
 //! A part that is added has a file of its own, with its questions and the answers that are due, and
 //! its lines in `parts` and in list.rs.
 
@@ -198,7 +202,7 @@ fn compare_part(wish: &Wish, part: &mut dyn Part) -> usize {
         Length::Brief => "brief",
         length => length.of("short", "long", "round"),
     };
-    println!("{}, {} run, seed {}, {}:", part.name(), length, wish.seed, std::env::consts::ARCH);
+    println!("{}, {} run, seed {}, the Rust's ring of {}, {}:", part.name(), length, wish.seed, judge::ring(), std::env::consts::ARCH);
     let found = match drive::differences(&wish.command, part, wish.first) {
         Ok(found) => found,
         Err(why) => {
@@ -242,6 +246,10 @@ fn main() {
     let words: Vec<String> = std::env::args().skip(1).collect();
     match words.first().map(String::as_str) {
         Some("list") => {
+            if judge::ring() != judge::DEFAULT_RING {
+                eprintln!("oracle: the fixed list is that of a ring of {}, and here it is of {}", judge::DEFAULT_RING, judge::ring());
+                exit(2);
+            }
             let text = match words.get(1).map(String::as_str) {
                 Some("questions") => list::questions(),
                 Some("answers") => list::answers(),

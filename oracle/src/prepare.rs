@@ -4,6 +4,9 @@
 //! does to its controller is document 02's rule, and is put behind both copies of it, since its counts are
 //! private; nothing of the Rust calls it.
 //!
+//! The Rust's ring holds as many peaks as one of its constants says: in both copies that is what is asked for, 1 to 16, or
+//! what is published.
+//!
 //! A text that is to be replaced and is not there exactly once ends the run: then the published
 //! source is not the one that this was written for.
 
@@ -26,7 +29,7 @@ const MODULES: [&str; 10] = [
 ];
 
 /// A module, a text that stands in it once, and what is written for it.
-type Edit = (&'static str, &'static str, &'static str);
+type Edit<'a> = (&'a str, &'a str, &'a str);
 
 /// In both copies.
 const BOTH: [Edit; 1] = [(
@@ -34,6 +37,12 @@ const BOTH: [Edit; 1] = [(
     ", reason = \"upstream logic\"",
     "",
 )];
+
+/// The ring's size, in both copies: the module, what stands before it, and the size that is published.
+const RING: (&str, &str, u32) = ("common", "SATURATION_PROTECTOR_BUFFER_SIZE: usize = ", 4);
+
+/// "Let the peak ring hold 1 to 16 entries".
+const LARGEST_RING: u32 = 16;
 
 /// In `ruled` alone: both powers.
 const RULED: [Edit; 2] = [
@@ -97,11 +106,22 @@ fn edited(module: &str, mut text: String, edits: &[Edit]) -> String {
     text
 }
 
+/// The ring's size that is asked for. None where it is not 1 to 16.
+fn ring(word: Option<&String>) -> Option<u32> {
+    match word {
+        None => Some(RING.2),
+        Some(word) => word.parse().ok().filter(|n| (1..=LARGEST_RING).contains(n)),
+    }
+}
+
 fn main() {
     let words: Vec<String> = env::args().collect();
-    if words.len() != 4 {
-        fail("usage: prepare SOURCE RULES OUT");
-    }
+    let size = match ring(words.get(4)) {
+        Some(size) if (4..=5).contains(&words.len()) => size,
+        _ => fail("usage: prepare SOURCE RULES OUT [RING], with a RING from 1 to 16"),
+    };
+    let [before, after] = [RING.2, size].map(|n| format!("{}{};", RING.1, n));
+    let sized: [Edit; 1] = [(RING.0, &before, &after)];
     let (source, rules, out) = (Path::new(&words[1]), Path::new(&words[2]), Path::new(&words[3]));
     for build in ["as_is", "ruled"] {
         let folder = out.join(build);
@@ -112,6 +132,7 @@ fn main() {
         for module in MODULES {
             let mut text = read(&source.join(format!("{}.rs", module)));
             text = edited(module, text, &BOTH);
+            text = edited(module, text, &sized);
             if build == "ruled" {
                 text = edited(module, text, &RULED);
             }

@@ -1,21 +1,26 @@
 //! The headroom that the recent peaks ask for: whole sequences with the Rust's saturation protector beside
-//! one that is written here from document 01.
+//! one that is written here from documents 01 and 02.
 //!
 //! The answers come from the one below, and after every call the Rust's must agree with it in its whole
 //! state, which the Rust's `Debug` form shows: both rings with their storage as well. Its count is not held
 //! at T: the smaller of count and T is compared. A handed-in state is in most cases that of a second
-//! protector, which goes on in the Rust too; any other is held to document 01 alone, and those frames are
-//! counted apart. The Rust has no gap: it gets a frame that is no speech, with one set of figures or another.
+//! protector, which goes on in the Rust too; any other is held to the documents alone, and those frames are
+//! counted apart. So is a protector whose rings are not of the Rust's size. The Rust has no gap: it gets a frame that is no
+//! speech, with one set of figures or another.
+//!
+//! The Rust's rings have no slots from the capacity on. These are held to the rule that keeping and throwing away copy the ring
+//! whole and that nothing else changes them; in about half of the states that are handed in, any bits stand in them.
 //!
 //! The largest peak can meet two zeros of unlike sign. Here the first is kept, as the Rust does on x86-64;
 //! on Arm the Rust has +0 there, and exactly that is let through.
 
 use crate::chain::{Figures, LOST};
-use crate::clauses::{self, Clause, Edges, MINUS_ZERO};
+use crate::clauses::{self, Clause, Edges, MINUS_ZERO, NO_NUMBERS};
 use crate::drive::{Ask, Length, Part};
-use crate::judge::{self, Departure, Judge, Tally, HEADROOM, LEVEL, PROBABILITY};
+use crate::judge::{self, Departure, Judge, Tally, HEADROOM, LARGEST_RING, LEVEL, PROBABILITY};
 use crate::lines::{self, bits, DONE, FIGURE, SETTING};
 use crate::random::Random;
+use crate::ring::{self, Ring};
 use sonora_as_is::saturation_protector::SaturationProtector as AsItStands;
 use sonora_ruled::saturation_protector::SaturationProtector as Published;
 
@@ -32,7 +37,7 @@ fn is_level(x: f32) -> bool {
     -150.0 <= x && x <= 50.0
 }
 
-/// The names of the clauses about each of the two states.
+/// The names of the clauses about each of the two states, but for the capacity's.
 const PRELIMINARY: [&str; 6] = [
     "protector preliminary headroom",
     "protector preliminary place",
@@ -50,98 +55,100 @@ const RELIABLE: [&str; 6] = [
     "protector reliable time",
 ];
 
+/// The clause about both capacities. One of them alone is not out of its range where they are alike, so it has no clause of its own.
+const CAPACITY: &str = "protector capacity";
+const ALIKE: &str = "protector capacities alike";
+
+/// Where the two states stand among the figures of a protector, how many each has, and where its figures stand.
+const STATES: [usize; 2] = [4, 4 + PEAKS];
+const PEAKS: usize = ELAPSED + 1;
+const RING: usize = 1;
+const LARGEST: usize = RING + ring::STATE;
+const ELAPSED: usize = LARGEST + 1;
+
 #[derive(Clone, Copy, Default)]
 struct Peaks {
     headroom: f32,
-    place: u32,
-    size: u32,
-    stored: [f32; 4],
+    ring: Ring,
     largest: f32,
     elapsed: u32,
 }
 
 impl Peaks {
-    fn new(headroom: f32) -> Peaks {
+    fn new(headroom: f32, capacity: u32) -> Peaks {
         Peaks {
             headroom,
+            ring: Ring::new(capacity),
             largest: LOWEST,
-            ..Peaks::default()
+            elapsed: 0,
         }
     }
 
-    /// "a protector's largest peak and ring storage -150 to 50; times 0 to 400 in tens; ring place 0 to 3,
-    /// size 0 to 4".
-    fn clauses(&self, names: [&'static str; 6]) -> [Clause; 6] {
+    /// "a protector's largest peak and ring storage -150 to 50; times 0 to 400 in tens"; a "ring place or count" that fits its
+    /// size. The first is the capacity's.
+    fn clauses(&self, names: [&'static str; 6]) -> [Clause; 7] {
         let [headroom, place, size, storage, largest, time] = names;
+        let [capacity, place, size, storage] = self.ring.clauses([CAPACITY, place, size, storage], is_level);
         [
+            capacity,
             (headroom, is_headroom(self.headroom)),
-            (place, self.place <= 3),
-            (size, self.size <= 4),
-            (storage, self.stored.iter().all(|&x| is_level(x))),
+            place,
+            size,
+            storage,
             (largest, is_level(self.largest)),
             (time, self.elapsed <= 400 && self.elapsed % 10 == 0),
         ]
     }
 
     fn figures(&self) -> Vec<u32> {
-        let mut all = vec![bits(self.headroom), self.place, self.size];
-        all.extend(self.stored.map(bits));
+        let mut all = vec![bits(self.headroom)];
+        all.extend(self.ring.figures());
         all.extend([bits(self.largest), self.elapsed]);
         all
     }
 
-    /// The state that figures begin with, and the figures behind it.
-    fn read(figures: &[u32]) -> Option<(Peaks, &[u32])> {
-        match figures {
-            [headroom, place, size, a, b, c, d, largest, elapsed, rest @ ..] => {
-                let peaks = Peaks {
-                    headroom: f32::from_bits(*headroom),
-                    place: *place,
-                    size: *size,
-                    stored: [*a, *b, *c, *d].map(f32::from_bits),
-                    largest: f32::from_bits(*largest),
-                    elapsed: *elapsed,
-                };
-                Some((peaks, rest))
-            }
-            _ => None,
+    /// The state with these figures.
+    fn read(figures: &[u32]) -> Option<Peaks> {
+        if figures.len() != PEAKS {
+            return None;
         }
+        Some(Peaks {
+            headroom: f32::from_bits(figures[0]),
+            ring: Ring::read(&figures[RING..LARGEST])?,
+            largest: f32::from_bits(figures[LARGEST]),
+            elapsed: figures[ELAPSED],
+        })
     }
 
     /// "The largest peak is pushed when elapsed time exceeds 400 ms; with an empty ring it stands for the
-    /// oldest." Answers whether it was pushed.
-    fn advance(&mut self, peak: f32, level: f32) -> bool {
+    /// oldest." Answers whether the ring was full that it was pushed into; none where it was not pushed.
+    fn advance(&mut self, peak: f32, level: f32) -> Option<bool> {
         self.largest = judge::larger(self.largest, peak);
         self.elapsed += 10;
-        let due = self.elapsed > 400;
-        if due {
-            self.stored[self.place as usize] = self.largest;
-            self.place = (self.place + 1) % 4;
-            self.size = (self.size + 1).min(4);
+        let pushed = (self.elapsed > 400).then(|| self.ring.is_full());
+        if pushed.is_some() {
+            self.ring.push(self.largest);
             self.largest = LOWEST;
             self.elapsed = 0;
         }
-        let oldest = match self.size {
-            0 => self.largest,
-            4 => self.stored[self.place as usize],
-            _ => self.stored[0],
-        };
-        let difference = oldest - level;
+        let difference = self.ring.oldest().unwrap_or(self.largest) - level;
         let stays: f32 = if difference > self.headroom { 0.9988494 } else { 0.99976975 };
         self.headroom = judge::clamp(self.headroom * stays + difference * (1.0 - stays), 12.0, 25.0);
-        due
+        pushed
     }
 
-    /// "Reset forgets items, not their storage."
+    /// "Reset forgets items, not their storage"; nor the capacity.
     fn restart(&mut self, headroom: f32) {
+        let mut ring = self.ring;
+        ring.reset();
         *self = Peaks {
-            stored: self.stored,
-            ..Peaks::new(headroom)
+            ring,
+            ..Peaks::new(headroom, ring.capacity)
         };
     }
 }
 
-/// The protector by document 01.
+/// The protector by documents 01 and 02.
 #[derive(Clone, Copy, Default)]
 pub struct State {
     pub initial: f32,
@@ -153,27 +160,32 @@ pub struct State {
 }
 
 impl State {
-    pub fn new(initial: f32, threshold: u32) -> State {
+    /// "Both states always have the same size."
+    pub fn new(initial: f32, threshold: u32, capacity: u32) -> State {
         State {
             initial,
             threshold,
             count: 0,
             headroom: initial,
-            preliminary: Peaks::new(initial),
-            reliable: Peaks::new(initial),
+            preliminary: Peaks::new(initial, capacity),
+            reliable: Peaks::new(initial, capacity),
         }
     }
 
-    /// "its settings and figures lie in their ranges; run counts 0 to T".
+    /// "its settings and figures lie in their ranges; run counts 0 to T"; 4 for a state "whose two rings differ in size".
     pub fn clauses(&self) -> Vec<Clause> {
+        let [one, rest @ ..] = self.preliminary.clauses(PRELIMINARY);
+        let [other, others @ ..] = self.reliable.clauses(RELIABLE);
         let mut all = vec![
             ("protector initial headroom", is_headroom(self.initial)),
             ("protector threshold", judge::is_threshold(self.threshold)),
             ("protector count", self.count <= self.threshold),
             ("protector headroom", is_headroom(self.headroom)),
+            (CAPACITY, one.1 && other.1),
+            (ALIKE, self.preliminary.ring.capacity == self.reliable.ring.capacity),
         ];
-        all.extend(self.preliminary.clauses(PRELIMINARY));
-        all.extend(self.reliable.clauses(RELIABLE));
+        all.extend(rest);
+        all.extend(others);
         all
     }
 
@@ -197,23 +209,28 @@ impl State {
 
     /// The state with these figures.
     pub fn read(figures: &[u32]) -> Option<State> {
-        let (first, rest) = figures.split_at(figures.len().min(4));
-        let (preliminary, rest) = Peaks::read(rest)?;
-        match (first, Peaks::read(rest)?) {
-            (&[initial, threshold, count, headroom], (reliable, [])) => Some(State {
-                initial: f32::from_bits(initial),
-                threshold,
-                count,
-                headroom: f32::from_bits(headroom),
-                preliminary,
-                reliable,
-            }),
-            _ => None,
+        let [preliminary, reliable] = STATES;
+        if figures.len() != reliable + PEAKS {
+            return None;
         }
+        Some(State {
+            initial: f32::from_bits(figures[0]),
+            threshold: figures[1],
+            count: figures[2],
+            headroom: f32::from_bits(figures[3]),
+            preliminary: Peaks::read(&figures[preliminary..reliable])?,
+            reliable: Peaks::read(&figures[reliable..])?,
+        })
     }
 
-    /// Answers whether a peak was pushed.
-    pub fn analyze(&mut self, p: f32, peak: f32, level: f32) -> bool {
+    /// Any bits in the slots of both rings from the capacity on.
+    pub fn litter(&mut self, source: &mut Random) {
+        self.preliminary.ring.litter(source);
+        self.reliable.ring.litter(source);
+    }
+
+    /// Answers whether the ring was full that a peak was pushed into; none where none was pushed.
+    pub fn analyze(&mut self, p: f32, peak: f32, level: f32) -> Option<bool> {
         let t = self.threshold;
         if judge::is_speech(p) {
             let pushed = self.preliminary.advance(peak, level);
@@ -229,7 +246,7 @@ impl State {
                 self.preliminary = self.reliable;
             }
             self.count = 0;
-            false
+            None
         }
     }
 
@@ -272,39 +289,44 @@ fn let_through(ours: u32, theirs: u32) -> Option<usize> {
     }
 }
 
-/// Whether the Rust's protector has this state, and then how many zeros of the other sign were let through.
+/// Whether the Rust's protector has this state, and then how many zeros of the other sign were let through. A state is here the
+/// headroom, the ring's capacity, its place, its size and its slots, the largest and the time; the Rust has no capacity and no slots from
+/// there on, and the other slots before place and size.
 pub fn is_shown(state: &State, other: &Published) -> Option<usize> {
-    let ours = state.figures();
-    let theirs = judge::values(&format!("{:?}", other), &NAMES).filter(|all| all.len() == 22)?;
-    let first = ours[..2] == theirs[..2] && ours[2] == theirs[2].min(state.threshold) && ours[3] == theirs[3];
+    let capacity = judge::ring() as usize;
+    // What the Rust shows of one of the two states.
+    let shown = capacity + 5;
+    let theirs = judge::values(&format!("{:?}", other), &NAMES).filter(|all| all.len() == 4 + 2 * shown)?;
+    let first = [bits(state.initial), state.threshold, state.count, bits(state.headroom)];
+    let count = theirs[2].min(state.threshold);
+    let mut same = first == [theirs[0], theirs[1], count, theirs[3]] && other.headroom_db().to_bits() == state.headroom.to_bits();
     let mut zeros = 0;
-    // Here a state is headroom, place, size, storage, largest, elapsed; the Rust has the storage before
-    // place and size.
-    for at in [4, 13] {
-        let (one, two) = (&ours[at..at + 9], &theirs[at..at + 9]);
-        if one[0] != two[0] || one[1..3] != two[5..7] || one[8] != two[8] {
-            return None;
+    for (one, two) in [&state.preliminary, &state.reliable].into_iter().zip(theirs[4..].chunks(shown)) {
+        let ring = &one.ring;
+        let (slots, rest) = two[1..].split_at(capacity);
+        same &= ring.capacity as usize == capacity && bits(one.headroom) == two[0];
+        same &= [ring.place, ring.size] == rest[..2] && one.elapsed == rest[3];
+        for (&x, &y) in ring.slots().iter().zip(slots) {
+            zeros += let_through(bits(x), y)?;
         }
-        for (&x, &y) in one[3..7].iter().zip(&two[1..5]) {
-            zeros += let_through(x, y)?;
-        }
-        zeros += let_through(one[7], two[7])?;
+        zeros += let_through(bits(one.largest), rest[2])?;
     }
-    (first && other.headroom_db().to_bits() == state.headroom.to_bits()).then_some(zeros)
+    same.then_some(zeros)
 }
 
-/// A protector by document 01, with the Rust's two beside it where they go along.
+/// A protector by documents 01 and 02, with the Rust's two beside it where they go along.
 struct Trio {
     state: State,
     rust: Option<(Published, AsItStands)>,
 }
 
 impl Trio {
-    fn new(initial: f32, threshold: u32) -> Trio {
+    /// The Rust goes along where it has such rings.
+    fn new(initial: f32, threshold: u32, capacity: u32) -> Trio {
         let t = threshold as i32;
         Trio {
-            state: State::new(initial, threshold),
-            rust: Some((Published::new(initial, t), AsItStands::new(initial, t))),
+            state: State::new(initial, threshold, capacity),
+            rust: (capacity == judge::ring()).then(|| (Published::new(initial, t), AsItStands::new(initial, t))),
         }
     }
 
@@ -312,8 +334,8 @@ impl Trio {
         Trio { state, rust: None }
     }
 
-    /// Answers whether a peak was pushed.
-    fn analyze(&mut self, p: f32, peak: f32, level: f32) -> bool {
+    /// Answers what the state does.
+    fn analyze(&mut self, p: f32, peak: f32, level: f32) -> Option<bool> {
         if let Some((one, other)) = &mut self.rust {
             one.analyze(p, peak, level);
             other.analyze(p, peak, level);
@@ -340,8 +362,11 @@ struct Desk {
     departure: Departure,
     peak: f32,
     level: f32,
-    /// Frames that publish, push, and whose largest peak meets a zero of the other sign.
-    cases: [usize; 3],
+    /// Frames that publish, and whose largest peak meets a zero of the other sign.
+    cases: [usize; 2],
+    /// Frames that push with the Rust beside, and those of them into a full ring; and the same by hand.
+    pushes: [usize; 2],
+    pushes_by_hand: [usize; 2],
     /// How many zeros of the other sign were let through: one that stays is counted after each call.
     zeros: usize,
 }
@@ -350,13 +375,15 @@ impl Desk {
     fn new() -> Desk {
         Desk {
             now: Trio::alone(State::default()),
-            aside: Trio::new(20.0, 12),
+            aside: Trio::new(20.0, 12, judge::ring()),
             unlike: Vec::new(),
             tally: Tally::default(),
             departure: Departure::default(),
             peak: -20.0,
             level: -40.0,
-            cases: [0; 3],
+            cases: [0; 2],
+            pushes: [0; 2],
+            pushes_by_hand: [0; 2],
             zeros: 0,
         }
     }
@@ -381,18 +408,18 @@ impl Desk {
         self.put(name, figures, reply, to)
     }
 
-    /// "initial headroom is a figure", so 2, and the threshold a setting, so 4, which comes first.
-    fn fresh(&mut self, initial: u32, threshold: u32, to: Ask) -> bool {
+    /// "initial headroom is a figure", so 2, and the threshold and the ring's size are settings, so 4, which comes first.
+    fn fresh(&mut self, initial: u32, threshold: u32, capacity: u32, to: Ask) -> bool {
         let x = f32::from_bits(initial);
-        let reply = if !judge::is_threshold(threshold) {
+        let reply = if !(judge::is_threshold(threshold) && judge::is_capacity(capacity)) {
             SETTING
         } else if !is_headroom(x) {
             FIGURE
         } else {
             DONE
         };
-        self.now = if reply == DONE { Trio::new(x, threshold) } else { Trio::alone(State::default()) };
-        self.call("protector.new", &[initial, threshold], reply, to)
+        self.now = if reply == DONE { Trio::new(x, threshold, capacity) } else { Trio::alone(State::default()) };
+        self.call("protector.new", &[initial, threshold, capacity], reply, to)
     }
 
     /// Hands any state in.
@@ -410,8 +437,12 @@ impl Desk {
         } else {
             let speech = judge::is_speech(p);
             let before = self.now.state.preliminary.largest;
-            self.cases[2] += (speech && before == 0.0 && x == 0.0 && before.to_bits() != x.to_bits()) as usize;
-            self.cases[1] += self.now.analyze(p, x, y) as usize;
+            self.cases[1] += (speech && before == 0.0 && x == 0.0 && before.to_bits() != x.to_bits()) as usize;
+            if let Some(full) = self.now.analyze(p, x, y) {
+                let counts = if self.now.rust.is_some() { &mut self.pushes } else { &mut self.pushes_by_hand };
+                counts[0] += 1;
+                counts[1] += full as usize;
+            }
             let state = &self.now.state;
             self.cases[0] += (speech && state.count == state.threshold) as usize;
             if let Some((_, other)) = &self.now.rust {
@@ -448,20 +479,24 @@ impl Judge for Desk {
             1 => judge::one_of(HEADROOM.ends, source),
             _ => (10.0 + 17.0 * judge::fraction(source)).to_bits(),
         };
-        self.fresh(initial, threshold, to)
+        self.fresh(initial, threshold, judge::ring(), to)
     }
 
+    /// Every second time with any bits in the slots from the capacity on, which the Rust does not have.
     fn swap(&mut self, to: Ask) -> bool {
         if self.now.rust.is_none() {
-            self.now = Trio::new(20.0, 3);
+            self.now = Trio::new(20.0, 3, judge::ring());
         }
         std::mem::swap(&mut self.now, &mut self.aside);
+        if self.tally.others % 2 == 0 {
+            self.now.state.litter(&mut Random::new(self.tally.others as u64));
+        }
         let figures = self.now.state.figures();
         self.call("protector.set", &figures, DONE, to)
     }
 
     fn after_speech(&mut self, threshold: u32, frames: u32, source: &mut Random, to: Ask) -> bool {
-        self.now = Trio::new(20.0, threshold);
+        self.now = Trio::new(20.0, threshold, judge::ring());
         for _ in 0..frames {
             let p = judge::probability(true, source);
             let [p, peak, level] = [p, LEVEL.any(self.peak, source), LEVEL.any(self.level, source)].map(f32::from_bits);
@@ -505,22 +540,34 @@ impl Judge for Desk {
         self.call("protector.gap", &[], reply, to)
     }
 
+    /// One of any capacity. In some cases one that fails comes before it: the same with two capacities that differ; or the same with
+    /// another capacity, which what the rings have then fits or does not.
     fn hand_in(&mut self, source: &mut Random, to: Ask) -> bool {
         let threshold = judge::any_threshold(source);
-        let mut state = State::new(f32::from_bits(judge::one_of(HEADROOM.ends, source)), threshold);
+        let capacity = if source.up_to(1) == 0 { judge::ring() } else { 1 + source.up_to(LARGEST_RING - 1) };
+        let mut state = State::new(f32::from_bits(judge::one_of(HEADROOM.ends, source)), threshold, capacity);
         state.headroom = f32::from_bits(judge::one_of(HEADROOM.ends, source));
         state.count = judge::one_of(&[0, 1, threshold - 1, threshold], source);
         for one in [&mut state.preliminary, &mut state.reliable] {
             one.headroom = f32::from_bits(HEADROOM.any(18.0, source));
-            one.place = source.up_to(3);
-            one.size = source.up_to(4);
-            for x in one.stored.iter_mut() {
+            one.ring.place = source.up_to(capacity - 1);
+            one.ring.size = if source.up_to(1) == 0 { capacity } else { source.up_to(capacity) };
+            for x in one.ring.stored.iter_mut() {
                 *x = f32::from_bits(LEVEL.any(-20.0, source));
             }
             one.largest = f32::from_bits(LEVEL.any(-20.0, source));
             one.elapsed = 10 * judge::one_of(&[0, 1, 38, 39, 40], source);
         }
-        self.set(state, to)
+        if source.up_to(3) > 0 {
+            state.litter(source);
+        }
+        let other = 1 + source.up_to(LARGEST_RING - 1);
+        let mut wrong = state;
+        wrong.reliable.ring.capacity = other;
+        if source.up_to(1) == 0 {
+            wrong.preliminary.ring.capacity = other;
+        }
+        (source.up_to(2) > 0 || (self.set(wrong, to) && self.refuse(source, to))) && self.set(state, to)
     }
 
     fn turn(&mut self, source: &mut Random) {
@@ -563,12 +610,16 @@ impl Judge for Desk {
     }
 
     fn each_setting(&mut self, source: &mut Random, to: Ask) -> bool {
-        let twenty = 20.0_f32.to_bits();
-        judge::WRONG_THRESHOLDS.iter().all(|&t| self.fresh(twenty, t, to) && self.fresh(0x7fc0_0000, t, to))
-            && HEADROOM.wrong.iter().all(|&x| self.fresh(x, 2, to))
-            && judge::GOOD_THRESHOLDS.iter().all(|&t| self.fresh(twenty, t, to))
+        let (twenty, none, ring) = (20.0_f32.to_bits(), 0x7fc0_0000, judge::ring());
+        judge::WRONG_THRESHOLDS.iter().all(|&t| self.fresh(twenty, t, ring, to) && self.fresh(none, t, ring, to))
+            && judge::WRONG_CAPACITIES.iter().all(|&n| {
+                self.fresh(twenty, 2, n, to) && self.fresh(none, 2, n, to) && self.fresh(twenty, 0, n, to) && self.refuse(source, to)
+            })
+            && HEADROOM.wrong.iter().all(|&x| self.fresh(x, 2, ring, to))
+            && judge::GOOD_THRESHOLDS.iter().all(|&t| self.fresh(twenty, t, ring, to))
+            && (1..=LARGEST_RING).all(|n| self.fresh(twenty, 2, n, to) && judge::run(self, 2, 1, source, to))
             && HEADROOM.ends.iter().all(|&x| {
-                self.fresh(x, 2, to) && judge::run(self, 1, 1, source, to) && judge::run(self, 3, 1, source, to)
+                self.fresh(x, 2, ring, to) && judge::run(self, 1, 1, source, to) && judge::run(self, 3, 1, source, to)
             })
     }
 
@@ -596,24 +647,36 @@ impl Judge for Desk {
 
 /// The states at the edges of the test.
 pub fn edges() -> Edges {
-    let mut all = Edges::of(State::new(20.0, 3).figures());
+    let mut all = Edges::of(State::new(20.0, 3, judge::ring()).figures());
     all.above_zero("protector initial headroom", 0, 100.0);
     all.at("protector threshold", 1, &judge::GOOD_THRESHOLDS, &judge::WRONG_THRESHOLDS);
     for (threshold, count) in judge::COUNTS {
         all.with("protector count", count <= threshold, &[(1, threshold), (2, count)]);
     }
     all.above_zero("protector headroom", 3, 100.0);
-    for (from, [headroom, place, size, storage, largest, time]) in [(4, PRELIMINARY), (13, RELIABLE)] {
+    let low_and_high = [-150.0_f32, 50.0].map(f32::to_bits);
+    let good = [&low_and_high[..], &[MINUS_ZERO]].concat();
+    let wrong = [&NO_NUMBERS[..1], &[clauses::below(-150.0), clauses::above(50.0)], &NO_NUMBERS[1..]].concat();
+    let rings = STATES.map(|from| from + RING);
+    for (from, [headroom, place, size, storage, largest, time]) in STATES.into_iter().zip([PRELIMINARY, RELIABLE]) {
         all.above_zero(headroom, from, 100.0);
-        all.at(place, from + 1, &[0, 3], &[4, 5, u32::MAX]);
-        all.at(size, from + 2, &[0, 4], &[5, 6, u32::MAX]);
-        for slot in from + 3..from + 7 {
-            all.between(storage, slot, -150.0, 50.0);
-            all.at(storage, slot, &[MINUS_ZERO], &[]);
+        ring::add_edges(&mut all, [CAPACITY, place, size, storage], from + RING, &rings, &good, &wrong);
+        all.between(largest, from + LARGEST, -150.0, 50.0);
+        all.at(largest, from + LARGEST, &[MINUS_ZERO], &[]);
+        all.at(time, from + ELAPSED, &[0, 10, 390, 400], &[5, 395, 399, 401, 405, 410, u32::MAX]);
+    }
+    // Two capacities that are each in range, by one apart and far; and one that is not, in either.
+    let [one, other] = rings.map(|at| at + ring::CAPACITY);
+    for n in 1..=LARGEST_RING {
+        all.with(ALIKE, true, &[(one, n), (other, n)]);
+        for more in [n + 1, LARGEST_RING].into_iter().filter(|&m| n < m && m <= LARGEST_RING) {
+            all.with(ALIKE, false, &[(one, n), (other, more)]);
+            all.with(ALIKE, false, &[(one, more), (other, n)]);
         }
-        all.between(largest, from + 7, -150.0, 50.0);
-        all.at(largest, from + 7, &[MINUS_ZERO], &[]);
-        all.at(time, from + 8, &[0, 10, 390, 400], &[5, 395, 399, 401, 405, 410, u32::MAX]);
+    }
+    for n in judge::WRONG_CAPACITIES {
+        all.at(CAPACITY, one, &[], &[n]);
+        all.at(CAPACITY, other, &[], &[n]);
     }
     all
 }
@@ -626,8 +689,38 @@ fn clauses_of(figures: &[u32]) -> Option<Vec<Clause>> {
 fn zeros(desk: &mut Desk, to: Ask) -> bool {
     let [speech, level] = [1.0_f32, -20.0].map(f32::to_bits);
     [[0, 0x8000_0000], [0x8000_0000, 0]].iter().all(|pair| {
-        desk.fresh(20.0_f32.to_bits(), 1, to) && (0..42).all(|i| desk.analyze(speech, pair[i % 2], level, to))
+        desk.fresh(20.0_f32.to_bits(), 1, judge::ring(), to) && (0..42).all(|i| desk.analyze(speech, pair[i % 2], level, to))
     })
+}
+
+/// From a new state: readings, with a cough between each two, until the ring is full and has gone round several times. With a
+/// threshold above 41 a cough pushes a peak too, which is thrown away.
+fn rounds(desk: &mut Desk, threshold: u32, source: &mut Random, to: Ask) -> bool {
+    let wanted = desk.pushes[1] + judge::rounds() as usize;
+    let mut going = desk.renew(threshold, source, to);
+    while going && desk.pushes[1] < wanted {
+        let reading = threshold + source.up_to(120);
+        going = judge::run(desk, reading, 1, source, to) && judge::run(desk, threshold - 1, 1, source, to);
+    }
+    going
+}
+
+/// A protector of a capacity, whose time is handed in at 400 ms before each frame of speech, so that each pushes, twice round the
+/// ring; with a frame that is none behind some, which keeps two peaks or throws one away. In the midst of it any bits come to stand
+/// in the slots from the capacity on.
+fn pushed_through(desk: &mut Desk, capacity: u32, source: &mut Random, to: Ask) -> bool {
+    desk.turn(source);
+    desk.fresh(20.0_f32.to_bits(), 2, capacity, to)
+        && (0..2 * capacity + 2).all(|i| {
+            let mut state = desk.now.state;
+            state.preliminary.elapsed = 400;
+            if i == capacity {
+                state.litter(source);
+            }
+            desk.set(state, to)
+                && desk.frame(judge::probability(true, source), source, to)
+                && (source.up_to(2) > 0 || desk.frame(judge::probability(false, source), source, to))
+        })
 }
 
 /// The questions of the fixed list. "40 speech frames push nothing, the 41st pushes" is among them.
@@ -636,14 +729,17 @@ pub fn list(seed: u64, to: Ask) -> Vec<String> {
     judge::list(&mut desk, seed, &[1, 2, 12], to);
     zeros(&mut desk, to);
     let [speech, peak, level] = [1.0_f32, -5.0, -30.0].map(f32::to_bits);
-    desk.fresh(20.0_f32.to_bits(), 1, to);
+    desk.fresh(20.0_f32.to_bits(), 1, judge::ring(), to);
     for i in 0..42 {
         desk.analyze(speech, peak, level, to);
-        if desk.now.state.preliminary.size != (i >= 40) as u32 {
+        if desk.now.state.preliminary.ring.size != (i >= 40) as u32 {
             judge::object(&mut desk.unlike, format!("a push after {} speech frames", i + 1));
         }
     }
     judge::list_gaps(&mut desk, seed, to);
+    for capacity in [1, judge::DEFAULT_RING, LARGEST_RING] {
+        pushed_through(&mut desk, capacity, &mut Random::new(seed), to);
+    }
     desk.unlike
 }
 
@@ -670,14 +766,18 @@ impl Part for Protectors {
 
     fn ask(&mut self, to: Ask) {
         let frames = self.length.frames(60_000, 1_000_000, 200_000);
-        let _ = (matches!(self.length, Length::Round | Length::States) || zeros(&mut self.desk, to))
-            && judge::play(&mut self.desk, self.seed, self.length, frames, to);
+        let (desk, source) = (&mut self.desk, &mut Random::new(self.seed));
+        let _ = (matches!(self.length, Length::Round | Length::States)
+            || (zeros(desk, to)
+                && (1..=LARGEST_RING).all(|n| pushed_through(desk, n, source, to))
+                && [1, 2, 12, 42].iter().all(|&t| rounds(desk, t, source, to))))
+            && judge::play(desk, self.seed, self.length, frames, to);
     }
 
     fn again(&mut self, name: &str, figures: &[u32], to: Ask) -> Option<bool> {
         let desk = &mut self.desk;
         Some(match (name, figures) {
-            ("protector.new", &[initial, threshold]) => desk.fresh(initial, threshold, to),
+            ("protector.new", &[initial, threshold, capacity]) => desk.fresh(initial, threshold, capacity, to),
             ("protector.set", state) => desk.set(State::read(state)?, to),
             ("protector.analyze", &[p, peak, level]) => desk.analyze(p, peak, level, to),
             ("protector.reset", []) => desk.reset(to),
@@ -691,7 +791,14 @@ impl Part for Protectors {
     }
 
     fn kinds(&self) -> Vec<(&'static str, usize)> {
-        self.desk.tally.kinds()
+        let mut all = self.desk.tally.kinds();
+        all.extend([
+            ("pushes with the Rust beside", self.desk.pushes[0]),
+            ("of them into a full ring", self.desk.pushes[1]),
+            ("pushes by the paper alone", self.desk.pushes_by_hand[0]),
+            ("of them into a full ring", self.desk.pushes_by_hand[1]),
+        ]);
+        all
     }
 
     fn unlike(&self) -> &[String] {
@@ -699,10 +806,10 @@ impl Part for Protectors {
     }
 
     fn notes(&self) -> Vec<String> {
-        let [published, pushed, zeros] = self.desk.cases;
+        let [published, zeros] = self.desk.cases;
         vec![
             self.desk.tally.note(),
-            format!("of the frames {} publish, {} push a peak, and in {} two zeros of unlike sign meet", published, pushed, zeros),
+            format!("of the frames {} publish, and in {} two zeros of unlike sign meet", published, zeros),
             format!("zeros of unlike sign that the Rust has otherwise, and that were let through: {}", self.desk.zeros),
             self.desk.departure.line("the headroom in dB"),
         ]

@@ -1,82 +1,147 @@
 //! The ring of recent peaks: whole sequences of calls, with the Rust's ring beside a ring that is
-//! written here from document 01.
+//! written here from documents 01 and 02.
 //!
-//! The Rust refuses nothing, and its storage is private. So the answers come from the ring below, and
-//! after every call the Rust's ring must agree with it: in its front, its size, its equality with the
-//! ring that was put aside, and in its whole storage, which the Rust's `Debug` form shows. A handed-in
-//! ring that the Rust cannot be brought to by its own calls is held to document 01 alone; those are
-//! counted apart.
+//! The Rust refuses nothing, its storage is private, and its rings are all of one size. So the answers come from the ring
+//! below, and after every call on a ring of the Rust's size the Rust's must agree with it: in its front, its size, its equality
+//! with the ring that was put aside, and in its whole storage, which the Rust's `Debug` form shows. It has no slots from the
+//! capacity on: those are held to the rule that no call reads or changes them. A ring of another capacity, and a handed-in ring
+//! that the Rust cannot be brought to by its own calls, is held to the documents alone; those are counted apart.
 
-use crate::clauses::{self, Clause, Edges, MINUS_ZERO, NO_NUMBERS};
+use crate::clauses::{self, Clause, Edges, MINUS_ZERO, NAN, NO_NUMBERS};
 use crate::drive::{Ask, Length, Part};
+use crate::judge::{self, LARGEST_RING};
 use crate::lines::{self, bits, DONE, FIGURE, SETTING};
 use crate::random::Random;
 use sonora_ruled::saturation_protector_buffer::SaturationProtectorBuffer as Published;
 
-/// "ring of 4".
-const CAPACITY: usize = 4;
+/// The slots of every ring.
+pub const SLOTS: usize = LARGEST_RING as usize;
 
-/// The ring by document 01. Its name and its fields' are the Rust's, so that both `Debug` forms can be
-/// compared.
+/// How many figures the state of a ring has: the capacity, the place, the size, and what is stored. Where these stand.
+pub const STATE: usize = STORED + SLOTS;
+pub const CAPACITY: usize = 0;
+pub const PLACE: usize = 1;
+pub const SIZE: usize = 2;
+pub const STORED: usize = 3;
+
+/// The ring by documents 01 and 02. All 0 is what stands before a question and what a refused new one leaves: it fails.
+#[derive(Clone, Copy, Debug, Default)]
+pub struct Ring {
+    pub capacity: u32,
+    pub place: u32,
+    pub size: u32,
+    pub stored: [f32; SLOTS],
+}
+
+/// What the Rust's `Debug` form shows of a ring: its name and its fields' are the Rust's.
 mod by_the_paper {
-    #[derive(Clone, Copy, Debug)]
-    pub struct SaturationProtectorBuffer {
-        pub buffer: [f32; super::CAPACITY],
-        pub next: usize,
-        pub size: usize,
+    #[derive(Debug)]
+    #[allow(dead_code)]
+    pub struct SaturationProtectorBuffer<'a> {
+        pub buffer: &'a [f32],
+        pub next: u32,
+        pub size: u32,
     }
 }
-use by_the_paper::SaturationProtectorBuffer as Ring;
-
-const EMPTY: Ring = Ring {
-    buffer: [0.0; CAPACITY],
-    next: 0,
-    size: 0,
-};
 
 impl Ring {
-    /// "ring place 0 to 3, size 0 to 4, stored items finite".
-    fn clauses(&self) -> Vec<Clause> {
-        vec![
-            ("ring place", self.next < CAPACITY),
-            ("ring size", self.size <= CAPACITY),
-            ("ring storage", self.buffer.iter().all(|x| x.is_finite())),
+    pub fn new(capacity: u32) -> Ring {
+        Ring {
+            capacity,
+            ..Ring::default()
+        }
+    }
+
+    /// The slots below the capacity.
+    pub fn slots(&self) -> &[f32] {
+        &self.stored[..self.capacity.min(LARGEST_RING) as usize]
+    }
+
+    /// "4 for a size outside 1 to 16, and for a state whose ring place or count doesn't fit its size": clauses of these
+    /// names about the capacity, the place, the size and the storage. No push makes a slot from the capacity on an item, so what is
+    /// stored there does not matter.
+    pub fn clauses(&self, names: [&'static str; 4], storable: impl Fn(f32) -> bool) -> [Clause; 4] {
+        let [capacity, place, size, storage] = names;
+        [
+            (capacity, judge::is_capacity(self.capacity)),
+            (place, self.place < self.capacity),
+            (size, self.size <= self.capacity),
+            (storage, self.slots().iter().all(|&x| storable(x))),
         ]
     }
 
     fn passes(&self) -> bool {
-        clauses::hold(&self.clauses())
+        clauses::hold(&self.clauses(NAMES, f32::is_finite))
     }
 
-    /// The ring with these figures.
-    fn read(figures: &[u32]) -> Option<Ring> {
-        match *figures {
-            [place, size, a, b, c, d] => Some(Ring {
-                buffer: [a, b, c, d].map(f32::from_bits),
-                next: place as usize,
-                size: size as usize,
-            }),
-            _ => None,
+    pub fn is_full(&self) -> bool {
+        self.size == self.capacity
+    }
+
+    pub fn push(&mut self, x: f32) {
+        self.stored[self.place as usize] = x;
+        self.place = (self.place + 1) % self.capacity;
+        self.size = (self.size + 1).min(self.capacity);
+    }
+
+    /// "Reset forgets items, not their storage."
+    pub fn reset(&mut self) {
+        self.place = 0;
+        self.size = 0;
+    }
+
+    /// Where the oldest item stands.
+    fn first(&self) -> u32 {
+        if self.is_full() {
+            self.place
+        } else {
+            0
         }
+    }
+
+    pub fn oldest(&self) -> Option<f32> {
+        (self.size > 0).then(|| self.stored[self.first() as usize])
     }
 
     /// The items, oldest first.
     fn items(&self) -> Vec<f32> {
-        let first = if self.size == CAPACITY { self.next } else { 0 };
-        (0..self.size.min(CAPACITY)).map(|i| self.buffer[(first + i) % CAPACITY]).collect()
+        (0..self.size).map(|i| self.stored[((self.first() + i) % self.capacity) as usize]).collect()
     }
 
-    fn figures(&self) -> Vec<u32> {
-        let mut all = vec![self.next as u32, self.size as u32];
-        all.extend(self.buffer.iter().map(|&x| bits(x)));
+    /// The ring with these figures.
+    pub fn read(figures: &[u32]) -> Option<Ring> {
+        let mut ring = Ring::default();
+        match figures {
+            [capacity, place, size, stored @ ..] if stored.len() == SLOTS => {
+                (ring.capacity, ring.place, ring.size) = (*capacity, *place, *size);
+                ring.stored.iter_mut().zip(stored).for_each(|(slot, &x)| *slot = f32::from_bits(x));
+                Some(ring)
+            }
+            _ => None,
+        }
+    }
+
+    pub fn figures(&self) -> Vec<u32> {
+        let mut all = vec![self.capacity, self.place, self.size];
+        all.extend(self.stored.map(bits));
         all
+    }
+
+    /// Whatever bits in the slots from the capacity on.
+    pub fn litter(&mut self, source: &mut Random) {
+        let from = self.slots().len();
+        for slot in &mut self.stored[from..] {
+            *slot = f32::from_bits(junk(source));
+        }
     }
 
     /// Whether the Rust can be brought to this ring by its own calls.
     fn is_reached(&self) -> bool {
-        self.passes() && (self.size == CAPACITY || self.next == self.size)
+        self.passes() && self.capacity == judge::ring() && (self.is_full() || self.place == self.size)
     }
 }
+
+const NAMES: [&str; 4] = ["ring capacity", "ring place", "ring size", "ring storage"];
 
 /// The Rust's ring with this storage, place and size, by its own calls.
 fn published(ring: &Ring) -> Option<Published> {
@@ -84,19 +149,20 @@ fn published(ring: &Ring) -> Option<Published> {
         return None;
     }
     let mut made = Published::default();
-    for x in ring.buffer {
+    for &x in ring.slots() {
         made.push_back(x);
     }
-    if ring.size < CAPACITY {
+    if !ring.is_full() {
         made.reset();
     }
-    for &x in &ring.buffer[..ring.next] {
+    for &x in &ring.stored[..ring.place as usize] {
         made.push_back(x);
     }
     Some(made)
 }
 
 /// A run of calls: both rings, and those that were put aside.
+#[derive(Default)]
 struct Desk {
     ring: Ring,
     aside: Ring,
@@ -106,22 +172,14 @@ struct Desk {
     with_the_rust: usize,
     by_hand: usize,
     refused: usize,
+    /// Accepted pushes with the Rust's ring beside, and those of them into a full ring; and the same by hand.
+    pushes: [usize; 2],
+    pushes_by_hand: [usize; 2],
+    /// Equalities of two rings of unlike capacity, and how many of them are equal.
+    unlike_capacity: [usize; 2],
 }
 
 impl Desk {
-    fn new() -> Desk {
-        Desk {
-            ring: EMPTY,
-            aside: EMPTY,
-            published: Some(Published::default()),
-            published_aside: Some(Published::default()),
-            unlike: Vec::new(),
-            with_the_rust: 0,
-            by_hand: 0,
-            refused: 0,
-        }
-    }
-
     /// Asks; the answer is the reply, the whole ring as it is then, and what each call says that only
     /// looks at it.
     fn put(&mut self, name: &str, figures: &[u32], reply: u32, to: Ask) -> bool {
@@ -132,9 +190,10 @@ impl Desk {
         }
         let mut all = vec![reply];
         all.extend(self.ring.figures());
-        all.extend([self.ring.passes() as u32, CAPACITY as u32]);
+        all.extend([self.ring.passes() as u32, judge::DEFAULT_RING]);
+        all.extend(self.told(self.ring.capacity));
         all.extend(self.front());
-        all.extend(if self.ring.passes() { [DONE, self.ring.size as u32] } else { [SETTING, 0] });
+        all.extend(self.told(self.ring.size));
         all.extend(self.equals());
         to(question, lines::answer(&all))
     }
@@ -149,33 +208,39 @@ impl Desk {
             }
         };
         self.with_the_rust += 1;
-        let front = self.ring.items().first().map(|x| x.to_bits());
-        if format!("{:?}", self.ring) != format!("{:?}", other)
-            || front != other.front().map(|x| x.to_bits())
-            || self.ring.size != other.size()
-            || CAPACITY != other.capacity()
+        let shown = by_the_paper::SaturationProtectorBuffer {
+            buffer: self.ring.slots(),
+            next: self.ring.place,
+            size: self.ring.size,
+        };
+        if format!("{:?}", shown) != format!("{:?}", other)
+            || self.ring.oldest().map(f32::to_bits) != other.front().map(f32::to_bits)
+            || self.ring.size as usize != other.size()
+            || self.ring.capacity as usize != other.capacity()
         {
-            self.unlike.push(format!("after {}: {:?} and the Rust's {:?}", question, self.ring, other));
+            judge::object(&mut self.unlike, format!("after {}: {:?} and the Rust's {:?}", question, self.ring, other));
         }
     }
 
-    fn fresh(&mut self, to: Ask) -> bool {
-        self.ring = EMPTY;
-        self.published = Some(Published::default());
-        self.put("ring.new", &[], DONE, to)
-    }
-
-    fn set(&mut self, place: u32, size: u32, stored: [u32; CAPACITY], to: Ask) -> bool {
-        let mut figures = vec![place, size];
-        figures.extend(stored);
-        self.hand_in(&figures, to)
-    }
-
-    /// The ring with these figures.
-    fn hand_in(&mut self, figures: &[u32], to: Ask) -> bool {
-        self.ring = Ring::read(figures).unwrap_or(EMPTY);
+    /// "4 for a size outside 1 to 16": then the ring is all 0.
+    fn fresh(&mut self, capacity: u32, to: Ask) -> bool {
+        let good = judge::is_capacity(capacity);
+        self.ring = if good { Ring::new(capacity) } else { Ring::default() };
         self.published = published(&self.ring);
-        self.put("ring.set", figures, DONE, to)
+        self.put("ring.new", &[capacity], if good { DONE } else { SETTING }, to)
+    }
+
+    /// The ring with these figures; none where there is no such ring.
+    fn hand_in(&mut self, figures: &[u32], to: Ask) -> Option<bool> {
+        self.ring = Ring::read(figures)?;
+        self.published = published(&self.ring);
+        Some(self.put("ring.set", figures, DONE, to))
+    }
+
+    fn set(&mut self, capacity: u32, place: u32, size: u32, stored: [u32; SLOTS], to: Ask) -> bool {
+        let mut figures = vec![capacity, place, size];
+        figures.extend(stored);
+        self.hand_in(&figures, to).unwrap_or(true)
     }
 
     /// "A pushed peak is any finite number"; 4 comes before 2.
@@ -186,10 +251,10 @@ impl Desk {
         } else if !x.is_finite() {
             FIGURE
         } else {
-            let ring = &mut self.ring;
-            ring.buffer[ring.next] = x;
-            ring.next = (ring.next + 1) % CAPACITY;
-            ring.size = CAPACITY.min(ring.size + 1);
+            let counts = if self.published.is_some() { &mut self.pushes } else { &mut self.pushes_by_hand };
+            counts[0] += 1;
+            counts[1] += self.ring.is_full() as usize;
+            self.ring.push(x);
             if let Some(other) = &mut self.published {
                 other.push_back(x);
             }
@@ -198,15 +263,13 @@ impl Desk {
         self.put("ring.push", &[figure], reply, to)
     }
 
-    /// "Reset forgets items, not their storage."
     fn reset(&mut self, to: Ask) -> bool {
         let reply = if self.ring.passes() {
-            self.ring.next = 0;
-            self.ring.size = 0;
+            self.ring.reset();
             if let Some(other) = &mut self.published {
                 other.reset();
             } else {
-                // From here on the Rust can be brought to it.
+                // From here on the Rust can be brought to it, where it is of the Rust's size.
                 self.published = published(&self.ring);
             }
             DONE
@@ -216,12 +279,21 @@ impl Desk {
         self.put("ring.reset", &[], reply, to)
     }
 
+    /// What a call says that tells a number of the ring: 4 and 0 where the ring fails.
+    fn told(&self, number: u32) -> [u32; 2] {
+        if self.ring.passes() {
+            [DONE, number]
+        } else {
+            [SETTING, 0]
+        }
+    }
+
     fn front(&self) -> [u32; 3] {
         if !self.ring.passes() {
             return [SETTING, 0, 0];
         }
-        match self.ring.items().first() {
-            Some(&x) => [DONE, 1, bits(x)],
+        match self.ring.oldest() {
+            Some(x) => [DONE, 1, bits(x)],
             None => [DONE, 0, 0],
         }
     }
@@ -232,15 +304,19 @@ impl Desk {
         self.put("ring.keep", &[], DONE, to)
     }
 
-    /// "Equality is of the items, oldest first."
+    /// "Equality is of the items, oldest first", also where the capacities are not the same.
     fn equals(&mut self) -> [u32; 2] {
         if !(self.ring.passes() && self.aside.passes()) {
             return [SETTING, 0];
         }
         let equal = self.ring.items() == self.aside.items();
+        if self.ring.capacity != self.aside.capacity {
+            self.unlike_capacity[0] += 1;
+            self.unlike_capacity[1] += equal as usize;
+        }
         if let (Some(one), Some(other)) = (&self.published, &self.published_aside) {
             if (one == other) != equal || (other == one) != equal {
-                self.unlike.push(format!("{:?} and {:?}: equal is {} by the paper alone", one, other, equal));
+                judge::object(&mut self.unlike, format!("{:?} and {:?}: equal is {} by the paper alone", one, other, equal));
             }
         }
         [DONE, equal as u32]
@@ -272,115 +348,192 @@ fn pooled(source: &mut Random) -> u32 {
     POOL[source.up_to(FINITE - 1) as usize]
 }
 
+/// What is not finite.
+fn no_number(source: &mut Random) -> u32 {
+    judge::one_of(&POOL[FINITE as usize..], source)
+}
+
+/// Whatever may lie in a slot from the capacity on.
+fn junk(source: &mut Random) -> u32 {
+    match source.up_to(3) {
+        0 => source.up_to(u32::MAX),
+        1 => judge::one_of(&POOL, source),
+        _ => no_number(source),
+    }
+}
+
 /// A figure: mostly one of the pool, at times any bits.
 fn any(source: &mut Random) -> u32 {
     match source.up_to(7) {
         0 => source.up_to(u32::MAX),
-        1 => POOL[source.up_to(POOL.len() as u32 - 1) as usize],
+        1 => judge::one_of(&POOL, source),
         _ => pooled(source),
     }
 }
 
 /// A ring that is handed in: one that the Rust can be brought to, one that it cannot, or one that
-/// fails its test in its place, its size or its storage.
+/// fails its test in its capacity, its place, its size or its storage. In most of them there is no number in
+/// the slots from the capacity on.
 fn handed_in(desk: &mut Desk, source: &mut Random, to: Ask) -> bool {
-    let mut stored = [0; CAPACITY];
-    for slot in &mut stored {
-        *slot = pooled(source);
+    let mut capacity = judge::any_capacity(source);
+    let mut stored = [0; SLOTS];
+    let littered = source.up_to(3) > 0;
+    for (i, slot) in stored.iter_mut().enumerate() {
+        *slot = if littered && i >= capacity as usize { junk(source) } else { pooled(source) };
     }
-    let (mut place, mut size) = (source.up_to(3), source.up_to(4));
-    match source.up_to(9) {
-        0 => place = 4 + source.up_to(2),
-        1 => size = 5 + source.up_to(2),
-        2 => stored[source.up_to(3) as usize] = POOL[(FINITE + source.up_to(POOL.len() as u32 - FINITE - 1)) as usize],
+    let (mut place, mut size) = (source.up_to(capacity - 1), source.up_to(capacity));
+    match source.up_to(15) {
+        0 => place = capacity + source.up_to(2),
+        1 => size = capacity + 1 + source.up_to(2),
+        2 => stored[source.up_to(capacity - 1) as usize] = no_number(source),
         3 => (place, size) = (source.up_to(u32::MAX), source.up_to(u32::MAX)),
-        4..=6 if size < 4 => place = size,
+        // Smaller or larger: the place, the size and what is stored then fit, or do not.
+        4 | 5 => capacity = 1 + source.up_to(LARGEST_RING - 1),
+        6 => capacity = judge::wrong_capacity(source),
+        7..=10 if size < capacity => place = size,
+        11..=13 => size = capacity,
         _ => (),
     }
-    desk.set(place, size, stored, to)
+    desk.set(capacity, place, size, stored, to)
 }
 
-/// One random call. A ring that fails its test is soon given up.
+/// One random call. A ring that fails its test, or that only the paper has, is soon given up.
 fn call(desk: &mut Desk, source: &mut Random, to: Ask) -> bool {
-    if !desk.ring.passes() && source.up_to(3) == 0 {
-        return desk.fresh(to);
+    let odds = if desk.ring.passes() { 31 } else { 3 };
+    if desk.published.is_none() && source.up_to(odds) == 0 {
+        return desk.fresh(judge::ring(), to);
     }
-    match source.up_to(31) {
-        0..=23 => desk.push(any(source), to),
-        24 | 25 => desk.reset(to),
-        26..=28 => desk.keep(to),
-        29 => desk.fresh(to),
+    match source.up_to(63) {
+        0..=51 => desk.push(any(source), to),
+        52..=54 => desk.reset(to),
+        55..=59 => desk.keep(to),
+        60 => {
+            let capacity = judge::any_capacity(source);
+            desk.fresh(capacity, to)
+        }
+        61 if source.up_to(1) == 0 => desk.fresh(judge::wrong_capacity(source), to),
         _ => handed_in(desk, source, to),
     }
 }
 
-/// Two rings with the same items at other places: each is filled after another number of pushes. At
-/// times one item differs, or is the other zero.
+/// Two rings with the same items at other places, in some cases of unlike capacity: each is filled after another number of
+/// pushes. At times one item differs, or is the other zero.
 fn rotated(desk: &mut Desk, source: &mut Random, to: Ask) -> bool {
-    let items: Vec<u32> = (0..CAPACITY).map(|_| pooled(source)).collect();
-    let size = source.up_to(CAPACITY as u32) as usize;
-    let altered = source.up_to(2 * CAPACITY as u32) as usize;
+    let first = judge::any_capacity(source);
+    let capacities = [first, if source.up_to(2) == 0 { 1 + source.up_to(LARGEST_RING - 1) } else { first }];
+    let most = capacities[0].min(capacities[1]);
+    let size = if source.up_to(1) == 0 { most } else { source.up_to(most) };
+    let items: Vec<u32> = (0..size).map(|_| pooled(source)).collect();
+    let altered = source.up_to(2 * most) as usize;
     let mut going = true;
-    for second in [false, true] {
-        going = going && desk.fresh(to);
+    for (second, capacity) in capacities.into_iter().enumerate() {
+        going = going && desk.fresh(capacity, to);
         // Fewer items than fill a ring start at place 0, after a reset.
-        for _ in 0..source.up_to(9) {
+        for _ in 0..source.up_to(2 * capacity) {
             let x = pooled(source);
             going = going && desk.push(x, to);
         }
-        if size < CAPACITY {
+        if size < capacity {
             going = going && desk.reset(to);
         }
-        for (i, &item) in items[..size].iter().enumerate() {
-            let x = if second && i == altered { item ^ 0x8000_0000 } else { item };
+        for (i, &item) in items.iter().enumerate() {
+            let x = if second == 1 && i == altered { item ^ 0x8000_0000 } else { item };
             going = going && desk.push(x, to);
         }
-        if !second {
+        if second == 0 {
             going = going && desk.keep(to);
         }
     }
     going
 }
 
-/// Pushed through: each item comes to the front once, in order.
+/// Pushed through, three times round the Rust's ring: each item comes to the front, in order.
 fn through(desk: &mut Desk, source: &mut Random, to: Ask) -> bool {
-    (0..2 * CAPACITY).all(|_| {
+    (0..3 * judge::ring()).all(|_| {
         let x = pooled(source);
         desk.push(x, to)
     })
 }
 
-fn sequence(desk: &mut Desk, source: &mut Random, calls: usize, to: Ask) -> bool {
-    let mut asked = 0;
+/// Random calls, until there are so many more pushes with the Rust's ring beside.
+fn sequence(desk: &mut Desk, source: &mut Random, pushes: usize, to: Ask) -> bool {
+    let wanted = desk.pushes[0] + pushes;
     let mut going = true;
-    while going && asked < calls {
-        let mut counted = |question: String, answer: String| {
-            asked += 1;
-            to(question, answer)
-        };
+    while going && desk.pushes[0] < wanted {
         going = match source.up_to(63) {
-            0 | 1 => rotated(desk, source, &mut counted),
-            2 => through(desk, source, &mut counted),
-            _ => call(desk, source, &mut counted),
+            0 | 1 => rotated(desk, source, to),
+            2 | 3 => through(desk, source, to),
+            _ => call(desk, source, to),
         };
     }
     going
 }
 
+/// The edges of the clauses about a ring whose figures stand from a place on, in a state whose rings stand at some places and have
+/// one capacity; with figures that may be stored and figures that may not. The clauses have these names.
+pub fn add_edges(all: &mut Edges, names: [&'static str; 4], from: usize, rings: &[usize], good: &[u32], wrong: &[u32]) {
+    let [capacity, place, size, storage] = names;
+    let first = [LARGEST_RING, judge::DEFAULT_RING, 1];
+    let sizes: Vec<u32> = first.into_iter().chain((2..LARGEST_RING).filter(|n| !first.contains(n))).collect();
+    // Empty rings of a capacity, with other figures in the one that is meant.
+    let mut with = |clause, inside, n: u32, changes: &[(usize, u32)]| {
+        let mut some: Vec<(usize, u32)> = rings.iter().flat_map(|at| [(at + CAPACITY, n), (at + PLACE, 0), (at + SIZE, 0)]).collect();
+        some.extend(changes.iter().map(|&(at, figure)| (from + at, figure)));
+        all.with(clause, inside, &some);
+    };
+    for &n in &sizes {
+        with(capacity, true, n, &[(PLACE, n - 1), (SIZE, n)]);
+        with(place, true, n, &[(PLACE, n - 1)]);
+        with(place, false, n, &[(PLACE, n)]);
+        with(size, true, n, &[(SIZE, n)]);
+        with(size, false, n, &[(SIZE, n + 1)]);
+    }
+    for n in judge::WRONG_CAPACITIES {
+        with(capacity, false, n, &[]);
+    }
+    with(capacity, false, LARGEST_RING + 1, &[(PLACE, LARGEST_RING), (SIZE, LARGEST_RING + 1)]);
+    // What fits the slots and not the capacity, and what fits neither.
+    with(place, false, judge::DEFAULT_RING, &[(PLACE, LARGEST_RING - 1)]);
+    with(size, false, judge::DEFAULT_RING, &[(SIZE, LARGEST_RING)]);
+    for n in [judge::DEFAULT_RING, judge::ring()] {
+        for far in [LARGEST_RING + 2, 1 << 31, u32::MAX] {
+            with(place, false, n, &[(PLACE, far)]);
+            with(size, false, n, &[(SIZE, far)]);
+        }
+    }
+    // What may not be stored stands in every slot from the capacity on, and then in the last slot below it.
+    for &n in &sizes {
+        let capacity = n as usize;
+        let littered: Vec<(usize, u32)> = (capacity..SLOTS).map(|i| (STORED + i, wrong[i % wrong.len()])).collect();
+        let last = |figure| vec![(STORED + capacity - 1, figure)];
+        with(storage, true, n, &[littered.clone(), vec![(PLACE, n - 1), (SIZE, n)]].concat());
+        with(storage, false, n, &[littered, last(NAN)].concat());
+        with(storage, false, n, &last(wrong[capacity % wrong.len()]));
+    }
+    for slot in 0..SLOTS {
+        for &figure in good {
+            with(storage, true, LARGEST_RING, &[(STORED + slot, figure)]);
+        }
+        for (i, &figure) in wrong.iter().enumerate() {
+            // All of them in the first slot and in the last, and some in each other.
+            if slot % (SLOTS - 1) == 0 || i % 4 == slot % 4 {
+                with(storage, false, LARGEST_RING, &[(STORED + slot, figure)]);
+            }
+        }
+    }
+}
+
 /// The rings at the edges of the test.
 fn edges() -> Edges {
-    let [a, b, c, d] = [1.0_f32, -2.0, 3.0, -4.0].map(f32::to_bits);
-    let mut all = Edges::of(vec![1, 3, a, b, c, d]);
-    all.at("ring place", 0, &[0, 3], &[4, 5, 1 << 31, u32::MAX]);
-    all.at("ring size", 1, &[0, 4], &[5, 6, 1 << 31, u32::MAX]);
-    for slot in 2..2 + CAPACITY {
-        all.at("ring storage", slot, &[0x7f7f_ffff, 0xff7f_ffff, MINUS_ZERO], &NO_NUMBERS);
-    }
+    let mut good = Ring::new(judge::ring());
+    (0..good.capacity + good.capacity / 2).for_each(|i| good.push(1.0 - 2.0 * i as f32));
+    let mut all = Edges::of(good.figures());
+    add_edges(&mut all, NAMES, 0, &[0], &[0x7f7f_ffff, 0xff7f_ffff, MINUS_ZERO], &NO_NUMBERS);
     all
 }
 
 fn clauses_of(figures: &[u32]) -> Option<Vec<Clause>> {
-    Some(Ring::read(figures)?.clauses())
+    Some(Ring::read(figures)?.clauses(NAMES, f32::is_finite).to_vec())
 }
 
 /// Each ring at an edge of the test, or a few of them, with every call.
@@ -388,22 +541,67 @@ fn at_edges(desk: &mut Desk, few: bool, to: Ask) -> bool {
     let edges = edges();
     desk.unlike.extend(edges.amiss(&[], &clauses_of));
     edges.some(few).iter().all(|edge| {
-        desk.hand_in(&edge.figures, to) && desk.push(0x3f80_0000, to) && desk.push(0x7fc0_0000, to) && desk.reset(to)
+        desk.hand_in(&edge.figures, to).unwrap_or(true)
+            && desk.push(0x3f80_0000, to)
+            && desk.push(0x7fc0_0000, to)
+            && desk.reset(to)
     })
 }
 
-/// The questions of the fixed list: document 01's examples, rings at the edges of the test, and a sequence.
+/// A ring of a capacity, through which 1, 2, 3 and so on are pushed, twice round: the oldest is the one that it must be after each
+/// push. Then the same ring with junk in the slots from the capacity on, which stays: it equals the one without.
+fn round(desk: &mut Desk, capacity: u32, source: &mut Random, to: Ask) -> bool {
+    let pushed = desk.fresh(capacity, to)
+        && (1..=2 * capacity + 1).all(|i| {
+            let going = desk.push((i as f32).to_bits(), to);
+            if desk.ring.oldest() != Some((i + 1).saturating_sub(capacity).max(1) as f32) {
+                judge::object(&mut desk.unlike, format!("after {} pushes into a ring of {}: {:?}", i, capacity, desk.ring));
+            }
+            going
+        });
+    let mut figures = desk.ring.figures();
+    figures.iter_mut().skip(STORED + capacity as usize).for_each(|slot| *slot = junk(source));
+    pushed
+        && desk.keep(to)
+        && desk.hand_in(&figures, to).unwrap_or(true)
+        && desk.push(0, to)
+        && desk.reset(to)
+        && desk.push(NAN, to)
+        && desk.push(MINUS_ZERO, to)
+}
+
+/// New rings of capacities that are refused, each with the calls that then refuse.
+fn refused(desk: &mut Desk, to: Ask) -> bool {
+    judge::WRONG_CAPACITIES
+        .iter()
+        .all(|&n| desk.fresh(n, to) && desk.push(0x3f80_0000, to) && desk.push(NAN, to) && desk.reset(to))
+}
+
+/// The questions of the fixed list: document 01's examples, rings of the least, the default and the largest capacity, rings at the
+/// edges of the test, and a sequence.
 pub fn list(seed: u64, to: Ask) -> Vec<String> {
-    let mut desk = Desk::new();
-    desk.fresh(to);
+    let source = &mut Random::new(seed);
+    let mut desk = Desk::default();
+    // Before all questions there is no ring that passes.
+    desk.push(0, to);
+    desk.keep(to);
+    desk.fresh(judge::DEFAULT_RING, to);
     for x in 1..=5 {
         desk.push((x as f32).to_bits(), to);
     }
-    // A NaN in a slot that holds no item now, which one push would make an item.
-    desk.set(2, 1, [0, 0x7fc0_0000, 0, 0], to);
-    desk.push(0, to);
+    // A NaN in a slot that holds no item now, which one push would make an item; and in one that no push makes an item.
+    for slot in [1, 4] {
+        let mut stored = [0; SLOTS];
+        stored[slot] = NAN;
+        desk.set(judge::DEFAULT_RING, 2, 1, stored, to);
+        desk.push(0, to);
+    }
+    refused(&mut desk, to);
+    for capacity in [1, judge::DEFAULT_RING, LARGEST_RING] {
+        round(&mut desk, capacity, source, to);
+    }
     at_edges(&mut desk, true, to);
-    sequence(&mut desk, &mut Random::new(seed), 600, to);
+    sequence(&mut desk, source, 400, to);
     desk.unlike
 }
 
@@ -419,7 +617,7 @@ impl Rings {
         Rings {
             seed,
             length,
-            desk: Desk::new(),
+            desk: Desk::default(),
         }
     }
 }
@@ -430,10 +628,14 @@ impl Part for Rings {
     }
 
     fn ask(&mut self, to: Ask) {
-        let calls = self.length.of(20_000, 1_000_000, 100_000);
-        let _ = (self.length == Length::Round || at_edges(&mut self.desk, false, to))
+        let source = &mut Random::new(self.seed);
+        let desk = &mut self.desk;
+        let pushes = self.length.of(14_000, 1_000_000, 70_000);
+        let _ = (self.length == Length::Round || at_edges(desk, false, to))
             && self.length != Length::States
-            && sequence(&mut self.desk, &mut Random::new(self.seed), calls, to);
+            && (self.length == Length::Round || refused(desk, to))
+            && (self.length == Length::Round || (1..=LARGEST_RING).all(|n| round(desk, n, source, to)))
+            && sequence(desk, source, pushes, to);
     }
 
     fn clauses(&self) -> Vec<&'static str> {
@@ -443,8 +645,8 @@ impl Part for Rings {
     fn again(&mut self, name: &str, figures: &[u32], to: Ask) -> Option<bool> {
         let desk = &mut self.desk;
         Some(match (name, figures) {
-            ("ring.new", []) => desk.fresh(to),
-            ("ring.set", &[place, size, a, b, c, d]) => desk.set(place, size, [a, b, c, d], to),
+            ("ring.new", &[capacity]) => desk.fresh(capacity, to),
+            ("ring.set", state) => desk.hand_in(state, to)?,
             ("ring.push", &[x]) => desk.push(x, to),
             ("ring.reset", []) => desk.reset(to),
             ("ring.keep", []) => desk.keep(to),
@@ -453,10 +655,17 @@ impl Part for Rings {
     }
 
     fn kinds(&self) -> Vec<(&'static str, usize)> {
+        let desk = &self.desk;
         vec![
-            ("calls with the Rust's ring beside", self.desk.with_the_rust),
-            ("on rings that only the paper has", self.desk.by_hand),
-            ("of all these refused", self.desk.refused),
+            ("calls with the Rust's ring beside", desk.with_the_rust),
+            ("on rings that only the paper has", desk.by_hand),
+            ("of all these refused", desk.refused),
+            ("accepted pushes with the Rust's ring beside", desk.pushes[0]),
+            ("of them into a full ring", desk.pushes[1]),
+            ("accepted pushes into rings that only the paper has", desk.pushes_by_hand[0]),
+            ("of them into a full ring", desk.pushes_by_hand[1]),
+            ("times two rings of unlike capacity", desk.unlike_capacity[0]),
+            ("of them equal", desk.unlike_capacity[1]),
         ]
     }
 

@@ -2,6 +2,7 @@
 //! or the minutes are over or an answer differs. What is counted is what was compared.
 
 use crate::drive::{self, Length, Part};
+use crate::judge;
 use crate::lines;
 use crate::shrink;
 use std::path::PathBuf;
@@ -264,9 +265,10 @@ pub fn compare(wish: &Wish) -> bool {
     }
     let sum = all(&counts);
     println!(
-        "at scale, seeds {} to {}, a round with each, {}, {} seconds:",
+        "at scale, seeds {} to {}, a round with each, the Rust's ring of {}, {}, {} seconds:",
         wish.seed,
         wish.seed.wrapping_add(rounds.max(1) - 1),
+        judge::ring(),
         std::env::consts::ARCH,
         start.elapsed().as_secs()
     );

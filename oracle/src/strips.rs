@@ -3,6 +3,9 @@
 //! whole services and damaged ones. About half of them are of version 1, and half of version 2; of those of version 2 about
 //! half have gaps.
 //!
+//! Some of the fixed ones go several times round the ring. What a strip is refused for does not depend on the ring: where the Rust has
+//! another one than published, only these and the paper's are run of the fixed ones.
+//!
 //! A random strip depends on the seed and on its own number alone, so a run finds the same strips whatever
 //! the number of cores.
 
@@ -202,11 +205,39 @@ fn fixed_gaps(all: &mut Vec<Case>) {
     }
 }
 
+/// Readings and coughs with peaks that each move the headroom, which fill the Rust's ring and go round it several times.
+fn rounds(threshold: u32, source: &mut Random) -> Vec<u8> {
+    let mut all = Vec::new();
+    for passage in Passage::many_near(threshold, judge::frames_of_rounds(), source) {
+        for i in 0..passage.length + passage.pause {
+            all.extend(record(&passage.figures(i < passage.length, source)));
+        }
+    }
+    all
+}
+
 fn fixed() -> Vec<Case> {
     let mut all: Vec<Case> = VERSIONS.iter().map(|version| ("the paper's strip", paper(version))).collect();
     // More than a pipe holds, in both directions.
     let source = &mut Random::new(0);
     all.push(("a long one", [head(&VERSIONS[0], 12, 480, Settings::USUAL), passages(12, 20_000, false, source)].concat()));
+    for (i, threshold) in [1, 2, 3, 12, 41, 60, 200, 300].into_iter().enumerate() {
+        let version = &VERSIONS[i % 2];
+        let mut records = rounds(threshold, source);
+        if version.gaps && i % 4 == 1 {
+            records = with_gaps(threshold, &records, source);
+        }
+        all.push(("round the ring", [head(version, threshold, 40, Settings::USUAL), records].concat()));
+    }
+    if judge::ring() == judge::DEFAULT_RING {
+        all.extend(fixed_with_any_ring());
+    }
+    all
+}
+
+/// Those in which the ring does not matter.
+fn fixed_with_any_ring() -> Vec<Case> {
+    let mut all = Vec::new();
     // It starts at -20, and one frame of 20 brings it to 0.
     let settings = Settings([0, 0x4248_0000, 0, 0x40c0_0000, 0xc248_0000]);
     let twenty = [1.0_f32, 20.0, 20.0, -90.0, -90.0].map(f32::to_bits);
@@ -635,7 +666,7 @@ fn tell(first: &Unlike) -> Result<(), String> {
 /// Runs the command on the fixed strips and on so many random ones; true where every byte is as it must be.
 pub fn compare(wish: &Wish) -> bool {
     let (seed, count) = (wish.seed, wish.count);
-    println!("strip, {} random strips, seed {}, {}:", count, seed, std::env::consts::ARCH);
+    println!("strip, {} random strips, seed {}, the Rust's ring of {}, {}:", count, seed, judge::ring(), std::env::consts::ARCH);
     let fixed = fixed();
     let (next, tally) = (AtomicUsize::new(0), Mutex::new(Tally::default()));
     let work = || loop {

@@ -51,8 +51,10 @@ same "speech: it finds a level that is altered" 1 "$(through speech "$(figure 14
 same "speech: it finds a confidence that is altered" 1 "$(through speech "$(figure 15 400 60)")"
 same "speech: it finds a count that is altered" 1 "$(through speech "$(figure 16 400 60)")"
 same "protector: it finds a headroom that is altered" 1 "$(through protector "$(figure 4 400 60)")"
-same "protector: it finds a stored peak that is altered" 1 "$(through protector "$(figure 8 400 60)")"
-same "protector: it finds a time that is altered" 1 "$(through protector "$(figure 13 400 60)")"
+same "protector: it finds a capacity that is altered" 1 "$(through protector "$(figure 6 400 60)")"
+same "protector: it finds a stored peak that is altered" 1 "$(through protector "$(figure 9 400 60)")"
+same "protector: it finds what is altered in the last slot" 1 "$(through protector "$(figure 24 400 60)")"
+same "protector: it finds a time that is altered" 1 "$(through protector "$(figure 26 400 60)")"
 same "controller: it finds a factor that is altered" 1 "$(through controller "$(figure 3 400 400)")"
 same "controller: it finds a waiting count that is altered" 1 "$(through controller "$(figure 13 400 400)")"
 same "controller: it finds a gain that is altered" 1 "$(through controller "$(figure 14 400 400)")"
@@ -66,7 +68,10 @@ same "the comparison finds that nothing is answered" 1 "$(through ratio 'cat >/d
 same "the comparison finds that the program fails" 1 "$(through ratio 'cat; exit 3')"
 same "the comparison finds that the program takes no question" 1 "$(compared curve 'true')"
 same "the comparison finds a count that is altered" 1 "$(through curve "sed '9000s/^\(.\{26\}\)\(.\)/\1f/'")"
-same "the comparison finds a stored peak that is altered" 1 "$(through ring "sed '9000s/^\(.\{60\}\)...../\1fffff/'")"
+same "ring: it finds a capacity that is altered" 1 "$(through ring "$(figure 1 9000 60)")"
+same "ring: it finds a stored peak that is altered" 1 "$(through ring "$(figure 7 9000 60)")"
+same "ring: it finds what is altered in the last slot" 1 "$(through ring "$(figure 19 9000 60)")"
+same "ring: it finds an equality that is altered" 1 "$(through ring "$(figure 30 9000 60)")"
 same "a part that there is not is refused" 2 "$(compared nothing cat)"
 
 # Whole strips: the oracle's own lines go through a filter first, in place of the program's.
@@ -166,13 +171,24 @@ slip "that a refused frame ends a run" oracle/chain 'frame.untouched()' '{ if re
 slip "a gap after which the level's run goes on" oracle/speech 'self.update(0.0, 0.0)' '()'
 slip "a gap that keeps a short run" oracle/speech 'self.update(0.0, 0.0)' '{ self.reliable = self.preliminary; self.count = 0 }'
 slip "a gap in a level that fails its test" oracle/speech 'before.passes()' 'true'
-slip "a gap after which the headroom's run goes on" oracle/protector 'self.analyze(0.0, 0.0, 0.0)' 'false'
+slip "a gap after which the headroom's run goes on" oracle/protector 'self.analyze(0.0, 0.0, 0.0)' 'None'
 slip "a gap in a headroom that fails its test" oracle/protector 'before.passes()' 'true'
 slip "a gap after which the gain need not wait" oracle/controller 'self.waiting = t' '()'
 slip "a gap in a gain that fails its test" oracle/controller 'before.passes()' 'true'
 slip "a gap in a chain that fails its test" oracle/chain 'self.put("chain.gap", &[], reply, [0; 4], &[], to)' 'self.put("chain.gap", &[], DONE, [0; 4], &[], to)'
 slip "a gap that moves the gain" oracle/chain 'self.controller.gap()' '{ self.controller.gap(); self.controller.gain *= 0.999 }'
 slip "a peak that is pushed a frame early" oracle/protector 'self.elapsed > 400' 'self.elapsed >= 400'
+# The ring, in the ways that its size may be forgotten.
+slip "a place that goes round at 16" oracle/ring '(self.place + 1) % self.capacity' '(self.place + 1) % LARGEST_RING'
+slip "a place that goes round at 4" oracle/ring '(self.place + 1) % self.capacity' '(self.place + 1) % judge::DEFAULT_RING'
+slip "a ring that is full with 4" oracle/ring 'self.size == self.capacity' 'self.size == judge::DEFAULT_RING'
+slip "a ring that holds 16" oracle/ring '(self.size + 1).min(self.capacity)' '(self.size + 1).min(LARGEST_RING)'
+slip "a capacity of 17 taken" oracle/judge '(1..=LARGEST_RING)' '(1..=LARGEST_RING + 1)'
+slip "a test that looks at every slot" oracle/ring 'self.slots().iter()' 'self.stored.iter()'
+slip "keeping without the slots from the capacity on" oracle/protector 'self.reliable = self.preliminary' \
+    '{ let before = self.reliable.ring; self.reliable = self.preliminary; let from = before.slots().len(); self.reliable.ring.stored[from..].copy_from_slice(&before.stored[from..]) }'
+slip "equality that wants one capacity" oracle/ring 'self.ring.items() == self.aside.items()' \
+    'self.ring.items() == self.aside.items() && self.ring.capacity == self.aside.capacity'
 slip "a cough that leaves a trace" oracle/speech 'self.preliminary = self.reliable' 'self.preliminary.left = self.reliable.left'
 # A slip in each part of the Rust that judges.
 slip "speech from another probability" ruled/speech_level_estimator \
@@ -235,6 +251,13 @@ makes chain "a run count of the protector that is held at 200"
 makes chain "a first step of 200 changes at most"
 for part in speech protector controller chain; do makes "$part" "a threshold of 3,001 taken" --brief; done
 makes chain "that a refused frame ends a run" --brief
+for slip in "a place that goes round at 16" "a place that goes round at 4" "a ring that is full with 4" "a ring that holds 16" \
+    "a capacity of 17 taken" "a test that looks at every slot"; do
+    for part in ring protector; do makes "$part" "$slip" --brief; done
+done
+makes ring "equality that wants one capacity" --brief
+makes protector "keeping without the slots from the capacity on" --brief
+for slip in "a place that goes round at 16" "a capacity of 17 taken" "a test that looks at every slot"; do makes chain "$slip" --brief; done
 makes speech "a gap after which the level's run goes on" --brief
 makes speech "a gap that keeps a short run" --brief
 makes speech "a gap in a level that fails its test" --brief
@@ -258,16 +281,17 @@ for part in ring curve estimator applier limiter speech protector controller cha
         same "$part: it finds a test without its clause '$clause'" 1 $?
     done <"$room/clauses"
 done
-same "the clauses are those of document 01: so many for each part" "3 2 3 4 6 15 16 15 52" \
+same "the clauses are those of documents 01 and 02: so many for each part" "4 2 3 4 6 15 18 15 54" \
     "$(for part in ring curve estimator applier limiter speech protector controller chain; do target/oracle/oracle clauses "$part" | wc -l; done | paste -sd' ')"
 # The short comparison, which the gate runs, asks these questions too.
 same "speech: the short comparison finds a test without a clause" 1 \
     "$(target/oracle/oracle compare --only speech --first --short -- target/oracle/oracle replay --without 'speech reliable sum' >/dev/null 2>&1; echo $?)"
 same "chain: the short comparison finds parts that are not alike in a setting" 1 \
     "$(target/oracle/oracle compare --only chain --first --short -- target/oracle/oracle replay --without 'chain output noise' >/dev/null 2>&1; echo $?)"
-# A refused frame in the middle of a service, in the chain's answers: the first that is refused after the 4300th line, which lies
-# among the services. It must not be told as accepted, and it must give its samples back.
-refused() { echo "awk 'NR > 4300 && /^0000000[123] 00000001/ && !done { done = 1; $1 } { print }'"; } # CHANGE
+# A refused frame in the middle of a service, in the chain's answers: the first that is refused after those about the edges of the
+# test, behind which the services are. It must not be told as accepted, and it must give its samples back.
+edges=$(target/oracle/oracle compare --only chain --states -- target/oracle/oracle replay | sed -n 's/.*: \([0-9]*\) answers compared.*/\1/p')
+refused() { echo "awk 'NR > ${edges:-0} && /^0000000[123] 00000001/ && !done { done = 1; $1 } { print }'"; } # CHANGE
 same "chain: it finds a refused frame in a service that is said to be accepted" 1 \
     "$(through chain "$(refused 'sub(/^0000000./, "00000000")')")"
 same "chain: it finds a refused frame in a service whose samples are altered" 1 \
@@ -298,7 +322,7 @@ at_scale() { # NAME PART MOST COMMAND..
 }
 damaged() { echo "tests/run-program replay | $1"; }
 at_scale "one digit that is altered" ratio 1 bash -c "$(damaged "sed 's/^\(00000000 41.\)7/\18/'")"
-at_scale "a ring of three that is altered" ring 4 bash -c "$(damaged "sed '/^.\{18\}00000003/s/f\$/e/; /^.\{18\}00000003/s/0\$/1/'")"
+at_scale "a ring of three that is altered" ring 4 bash -c "$(damaged "sed '/^.\{27\}00000003/s/f\$/e/; /^.\{27\}00000003/s/0\$/1/'")"
 at_scale "a frame that is said not to be published" chain 201 bash -c "$(damaged "sed 's/^00000000 00000001 00000002/00000000 00000001 00000001/'")"
 at_scale "an answer that is missing at the end" curve 1 bash -c "$(damaged "sed '\$d'")"
 at_scale "an answer too many" limiter 1 bash -c "$(damaged "sed '\$p'")"

@@ -1,15 +1,15 @@
 // The headroom that the recent peaks ask for.
 //
-//   protector.new HEADROOM THRESHOLD
+//   protector.new HEADROOM THRESHOLD CAPACITY
 //   protector.set STATE               the protector with this state
 //   protector.analyze PROBABILITY PEAK LEVEL
 //   protector.reset
 //   protector.gap
 //
-// Each answer shows the state, which is twenty-two figures (the headroom to start with, the threshold, the
+// Each answer shows the state, which is forty-eight figures (the headroom to start with, the threshold, the
 // count of adjacent speech frames, the published headroom, and then the preliminary state and the reliable
-// one, each as its headroom, its ring (the place, the size and the four that are stored), the largest peak
-// and the time since the last push); whether it passes; and headroom_db (a reply and the headroom).
+// one, each as its headroom, its ring (the capacity, the place, the size and the sixteen that are stored), the
+// largest peak and the time since the last push); whether it passes; and headroom_db (a reply and the headroom).
 
 use crate::figures;
 use crate::figures::ASKED;
@@ -55,7 +55,7 @@ const REST: usize = 3;
 
 // The names, as `lines::seek` takes them: a letter, how many figures the name takes, and the name.
 pub const NAMES: [u8; 91] =
-    *b"n2=protector.new s*=protector.set a3=protector.analyze r0=protector.reset g0=protector.gap ";
+    *b"n3=protector.new s*=protector.set a3=protector.analyze r0=protector.reset g0=protector.gap ";
 
 // The letters.
 const NEW: u8 = b'n';
@@ -133,7 +133,7 @@ pub(crate) fn leave(desk: &mut Desk, protector: Protector) {
 fn next(word: u8, protector: Protector, given: Given) -> Next {
     let first = bits::float_of(given.first);
     if word == NEW {
-        Protector::new(Db(first), given.second)
+        Protector::new(Db(first), given.second, given.third)
     } else if word == ANALYZE {
         protector.analyze(
             first,

@@ -1,15 +1,15 @@
 // The ring of recent peaks.
 //
-//   ring.new
+//   ring.new CAPACITY
 //   ring.set STATE            the ring with this state
 //   ring.push X
 //   ring.reset
 //   ring.keep                 a copy is put aside
 //
-// Each answer shows the state, which is six figures (the place, the size and the four that are stored);
-// whether it passes; how many peaks a ring can hold; the oldest (a reply, 0 for none and 1 for one, and
-// its value); how many peaks there are (a reply and the number); and whether it equals the one that was
-// put aside (a reply and a bool).
+// Each answer shows the state, which is nineteen figures (the capacity, the place, the size and the sixteen that
+// are stored); whether it passes; the usual capacity; its own capacity (a reply and the number); the oldest (a reply,
+// 0 for none and 1 for one, and its value); how many peaks there are (a reply and the number); and whether it equals
+// the one that was put aside (a reply and a bool).
 
 use crate::figures;
 use crate::figures::ASKED;
@@ -21,6 +21,7 @@ use crate::ratio;
 use saturation_protector_buffer::Front;
 use saturation_protector_buffer::Next;
 use saturation_protector_buffer::Ring;
+use saturation_protector_buffer::STORAGE;
 use std::num::wrapping_add_usize;
 use units::kinds::Dbfs;
 use units::replies::DONE;
@@ -29,7 +30,7 @@ use units::replies::DONE;
 // end on the desk.
 pub const PART: u32 = ratio::PART + 1;
 
-pub const STATE: usize = STORED + 4;
+pub const STATE: usize = STORED + STORAGE;
 
 const SHOWN: usize = STATE + REST;
 
@@ -40,14 +41,14 @@ const ASIDE: usize = FROM + SHOWN;
 
 pub const END: usize = ASIDE + SHOWN;
 
-// Where the peaks stand that are stored, behind the place and the size; and how many figures are shown behind
-// the state.
-const STORED: usize = 2;
+// Where the peaks stand that are stored, behind the capacity, the place and the size; and how many figures are
+// shown behind the state.
+const STORED: usize = 3;
 
-const REST: usize = 9;
+const REST: usize = 11;
 
 // The names, as `lines::seek` takes them: a letter, how many figures the name takes, and the name.
-pub const NAMES: [u8; 64] = *b"n0=ring.new s*=ring.set p1=ring.push r0=ring.reset k0=ring.keep ";
+pub const NAMES: [u8; 64] = *b"n1=ring.new s*=ring.set p1=ring.push r0=ring.reset k0=ring.keep ";
 
 // The letters.
 const NEW: u8 = b'n';
@@ -62,15 +63,29 @@ const KEEP: u8 = b'k';
 
 // The ring whose figures stand at a place.
 pub(crate) fn read(all: &Desk, from: usize) -> Ring {
+    let at = wrapping_add_usize(from, STORED);
     Ring {
         stored: [
-            figures::float(all, from, 2),
-            figures::float(all, from, 3),
-            figures::float(all, from, 4),
-            figures::float(all, from, 5),
+            figures::float(all, at, 0),
+            figures::float(all, at, 1),
+            figures::float(all, at, 2),
+            figures::float(all, at, 3),
+            figures::float(all, at, 4),
+            figures::float(all, at, 5),
+            figures::float(all, at, 6),
+            figures::float(all, at, 7),
+            figures::float(all, at, 8),
+            figures::float(all, at, 9),
+            figures::float(all, at, 10),
+            figures::float(all, at, 11),
+            figures::float(all, at, 12),
+            figures::float(all, at, 13),
+            figures::float(all, at, 14),
+            figures::float(all, at, 15),
         ],
-        place: figures::word(all, from, 0),
-        size: figures::word(all, from, 1),
+        capacity: figures::word(all, from, 0),
+        place: figures::word(all, from, 1),
+        size: figures::word(all, from, 2),
     }
 }
 
@@ -93,7 +108,7 @@ fn case(front: Front) -> u32 {
 // Stores the figures of a ring's state, from a place on.
 pub(crate) fn put(desk: &mut Desk, from: usize, ring: Ring) {
     let stored = ring.stored;
-    let first = [ring.place, ring.size];
+    let first = [ring.capacity, ring.place, ring.size];
     figures::put(desk, from, &first);
     figures::put_floats(desk, wrapping_add_usize(from, STORED), &stored);
 }
@@ -103,10 +118,13 @@ fn rest(ring: Ring, aside: Ring) -> [u32; REST] {
     let oldest = ring.front();
     let front = oldest.front;
     let size = ring.size();
+    let held = ring.capacity();
     let same = ring.equals(aside);
     [
         numbers::flag(ring.passes()),
-        numbers::narrow(saturation_protector_buffer::capacity()),
+        saturation_protector_buffer::usual_capacity(),
+        held.reply,
+        held.capacity,
         oldest.reply,
         case(front),
         value(front),
@@ -117,15 +135,12 @@ fn rest(ring: Ring, aside: Ring) -> [u32; REST] {
     ]
 }
 
-// The reply to a question about a ring, and the ring after it. A question that has a figure has a peak.
-fn next(word: u8, ring: Ring, peak: f32) -> Next {
+// The reply to a question about a ring, and the ring after it. The figure of a question is a capacity or a peak.
+fn next(word: u8, ring: Ring, figure: u32) -> Next {
     if word == NEW {
-        Next {
-            reply: DONE,
-            ring: Ring::new(),
-        }
+        Ring::new(figure)
     } else if word == PUSH {
-        ring.push_back(Dbfs(peak))
+        ring.push_back(Dbfs(bits::float_of(figure)))
     } else if word == RESET {
         ring.reset()
     } else {
@@ -138,7 +153,7 @@ pub(crate) fn answer(word: u8, given: Given, desk: &mut Desk) -> Reply {
     let before = read(desk, numbers::pick(word == SET, ASKED, FROM));
     let aside = read(desk, numbers::pick(word == KEEP, FROM, ASIDE));
     let to = numbers::pick(word == KEEP, ASIDE, FROM);
-    let a = next(word, before, bits::float_of(given.first));
+    let a = next(word, before, given.first);
     let last = rest(a.ring, aside);
     put(desk, to, a.ring);
     figures::put(desk, wrapping_add_usize(to, STATE), &last);

@@ -1,7 +1,8 @@
 // The chain. Its four parts stand where the limiter, the level of the speech, the protector and the controller
 // stand on the desk, so each of them can be handed in by its own name as well.
 //
-//   chain.new SETTINGS THRESHOLD SAMPLES  five settings, as speech.new has them
+//   chain.new SETTINGS THRESHOLD SAMPLES CAPACITY
+//                                         five settings, as speech.new has them
 //   chain.set STATE                       the chain with this state: the limiter's, the speech level's, the
 //                                         protector's and the controller's, in this order
 //   chain.step FRAME                      between its two first figures and its samples stand the frame's
@@ -65,7 +66,7 @@ const KNOWN: usize = 2;
 
 // The names, as `lines::seek` takes them: a letter, how many figures the name takes, and the name.
 pub const NAMES: [u8; 68] =
-    *b"n7=chain.new s*=chain.set f7+chain.step g0=chain.gap l0=chain.state ";
+    *b"n8=chain.new s*=chain.set f7+chain.step g0=chain.gap l0=chain.state ";
 
 // The letters.
 const NEW: u8 = b'n';
@@ -186,7 +187,9 @@ fn still(word: u8, desk: &Desk) -> Next {
     if word == NEW {
         let threshold = figures::word(desk, ASKED, speech::SETTINGS);
         let samples = figures::count(desk, ASKED, speech::SETTINGS + 1);
-        started(Chain::new(speech::settings(desk, ASKED), threshold, samples))
+        let capacity = figures::word(desk, ASKED, speech::SETTINGS + 2);
+        let settings = speech::settings(desk, ASKED);
+        started(Chain::new(settings, threshold, samples, capacity))
     } else if word == GAP {
         interrupted(read(desk, false).gap())
     } else {

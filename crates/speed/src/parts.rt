@@ -19,10 +19,13 @@ use units::kinds::LinearS16;
 use units::replies::DONE;
 use units::settings::Settings;
 
-// How many adjacent speech frames a run needs to count, and the headroom to start with: the Rust's own.
+// How many adjacent speech frames a run needs to count, the headroom to start with, and how many peaks the ring holds: the
+// Rust's own.
 const THRESHOLD: u32 = 12;
 
 const INITIAL: f32 = 20.0;
+
+const RING: u32 = 4;
 
 // What is asked: the part, the sound, the channels, the samples of each, and the frames. All of them
 // are read when the program runs, so that no part is compiled for one size.
@@ -105,7 +108,7 @@ fn hear(frame: &mut [f32], ask: Ask) -> Outcome {
 
 // The headroom by the recent peaks, with their ring. The digest ends with it.
 fn protect(frame: &mut [f32], ask: Ask) -> Outcome {
-    let new = Protector::new(Db(INITIAL), THRESHOLD);
+    let new = Protector::new(Db(INITIAL), THRESHOLD, RING);
     let mut protector = new.protector;
     let mut tape = sound::start();
     let mut refused = false;
@@ -301,7 +304,7 @@ fn limit(frame: &mut [f32], ask: Ask) -> Outcome {
 
 // A new chain for channels of so many samples.
 fn leveller_for(samples: usize) -> Chain {
-    let new = Chain::new(Settings::usual(), THRESHOLD, samples);
+    let new = Chain::new(Settings::usual(), THRESHOLD, samples, RING);
     let chain = new.chain;
     chain
 }

@@ -7,9 +7,11 @@ use lib.Ieee.{Float, binary32, ofBits}
 use Rattle.units.specs.Replies.{done}
 use Rattle.units.specs.Settings.{usual}
 use Rattle.decibels.specs.Ratio.{answer}
-use Rattle.saturation_protector_buffer.specs.Ring.{emptyOf, empty, itemsOf, items}
-use Rattle.saturation_protector_buffer.specs.Calls.{frontedOf, fronted}
-use Rattle.saturation_protector_buffer.specs.History.{after-pushes-of, after-pushes}
+use Rattle.saturation_protector_buffer.specs.Ring as Ring
+use Rattle.saturation_protector_buffer.specs.Ring.{items}
+use Rattle.saturation_protector_buffer.specs.Calls as Rings
+use Rattle.saturation_protector_buffer.specs.Calls.{fronted}
+use Rattle.saturation_protector_buffer.specs.History.{after-pushes}
 use Rattle.saturation_protector.specs.Calls.{made}
 use Rattle.saturation_protector.specs.History.{Figures, heard}
 use Rattle.interpolated_gain_curve.specs.Gain.{identity, knee, limiter, saturation, pieceOf, onPiece}
@@ -31,14 +33,14 @@ pub data Example : Type 0 where
   pieces : Float → ℕ → ℕ → Example
   -- a gain in dB has this ratio
   ratios : Float → Float → Example
-  -- after these pushes into a new ring the oldest is this one, or there is none
-  oldest : List Float → List Float → Example
-  -- after so many speech frames a new protector's ring has so many items
-  peaks : ℕ → ℕ → Example
+  -- after these pushes into a new ring of this capacity the oldest is this one, or there is none
+  oldest : ℕ → List Float → List Float → Example
+  -- after so many speech frames the ring of a new protector, of this capacity, has so many items
+  peaks : ℕ → ℕ → ℕ → Example
   -- these bytes are a head of this version and threshold, so many samples, and the Rust's default settings
   heads : List ℕ → Version → ℕ → ℕ → Example
-  -- this strip gives these lines
-  prints : List ℕ → List ℕ → Example
+  -- this strip, with rings of this capacity, gives these lines
+  prints : ℕ → List ℕ → List ℕ → Example
 
 -- a frame of speech at a level of -30 dBFS, with a peak of -10
 abbrev reading : Figures
@@ -51,20 +53,20 @@ numberOf (x ∷ xs) = 1
 
 -- what an example says
 unfoldable pub Holds : Example → Type 0
-unfolding looked fresh pieceOf onPiece answer frontedOf after-pushes-of emptyOf made heard itemsOf versionOf readHead usual lines
+unfolding looked fresh pieceOf onPiece answer fronted after-pushes Rings.made made heard items versionOf readHead usual lines
 Holds (gains level gain region) =
     (looked fresh level .reply ≡ done) × (looked fresh level .gain ≡ gain) × (looked fresh level .curve .region ≡ region)
 -- The gain alone does not tell the piece: at the last knot, 36575.03, pieces 30 and 31 give the same f32.
 Holds (pieces level piece region) =
     (pieceOf level ≡ piece) × (looked fresh level .reply ≡ done) × (looked fresh level .gain ≡ onPiece piece level) × (looked fresh level .curve .region ≡ region)
 Holds (ratios db ratio) = answer db ≡ record { reply = done; ratio = ratio }
-Holds (oldest pushes front) =
-    fronted (after-pushes empty pushes) ≡ record { reply = done; front = record { number = numberOf front; values = front } }
-Holds (peaks frames pushed) =
-    length (items (heard (made (float 0x41a0_0000) 2 .protector) (replicate frames reading) .preliminary .ring)) ≡ pushed
+Holds (oldest capacity pushes front) =
+    fronted (after-pushes (Rings.made capacity .ring) pushes) ≡ record { reply = done; front = record { number = numberOf front; values = front } }
+Holds (peaks capacity frames pushed) =
+    length (items (heard (made (float 0x41a0_0000) 2 capacity .protector) (replicate frames reading) .preliminary .ring)) ≡ pushed
 Holds (heads bytes version threshold samples) =
     readHead (versionOf bytes) bytes ≡ record { reply = done; head = record { version = version; threshold = threshold; samples = samples; settings = usual } }
-Holds (prints strip printed) = lines strip ≡ printed
+Holds (prints capacity strip printed) = lines capacity strip ≡ printed
 
 -- ---- the strip
 -- "Head `00 18 01 02 01 E0 40 A0 00 00 42 48 00 00 41 70 00 00 40 C0 00 00 C2 48 00 00`"
@@ -117,18 +119,25 @@ table =
     ∷ ratios (float 0x41a0_0000) (float 0x4120_0000)
     ∷ ratios (float 0x4220_0000) (float 0x42c8_0000)
     -- "Push 1 to 5: oldest is 2. Empty ring: none."
-    ∷ oldest
+    ∷ oldest Ring.usual
     (float 0x3f80_0000 ∷ float 0x4000_0000 ∷ float 0x4040_0000 ∷ float 0x4080_0000 ∷ float 0x40a0_0000 ∷ [])
     (float 0x4000_0000 ∷ [])
-    ∷ oldest [] []
+    ∷ oldest Ring.usual [] []
+    -- in a ring of 1 it is the last, and in one of 16 still the first
+    ∷ oldest 1
+    (float 0x3f80_0000 ∷ float 0x4000_0000 ∷ float 0x4040_0000 ∷ float 0x4080_0000 ∷ float 0x40a0_0000 ∷ [])
+    (float 0x40a0_0000 ∷ [])
+    ∷ oldest 16
+    (float 0x3f80_0000 ∷ float 0x4000_0000 ∷ float 0x4040_0000 ∷ float 0x4080_0000 ∷ float 0x40a0_0000 ∷ [])
+    (float 0x3f80_0000 ∷ [])
     -- "Peaks: 40 speech frames push nothing, the 41st pushes."
-    ∷ peaks 40 0
-    ∷ peaks 41 1
+    ∷ peaks Ring.usual 40 0
+    ∷ peaks Ring.usual 41 1
     -- "T 2, 480 samples, the Rust's default settings"; the five records, and the output
     ∷ heads head One 2 480
-    ∷ prints (head ++ records) printed
+    ∷ prints Ring.usual (head ++ records) printed
     -- the same in version 2, and its largest threshold
     ∷ heads head-in-two Two 2 480
     ∷ heads head-of-3000 Two 3000 480
-    ∷ prints (head-in-two ++ records) printed
+    ∷ prints Ring.usual (head-in-two ++ records) printed
     ∷ []

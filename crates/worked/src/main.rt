@@ -3,6 +3,7 @@
 
 use chain::Chain;
 use decibels::ratio;
+use saturation_protector_buffer::usual_capacity;
 use units::kinds::Db;
 use units::replies::DONE;
 use units::replies::FIGURE;
@@ -23,7 +24,7 @@ fn show(example: &[u8], reply: u32, due: u32) {
 
 // The reply of a new chain with channels of so many samples.
 fn with_samples(samples: usize) -> u32 {
-    let made = Chain::new(Settings::usual(), 2, samples);
+    let made = Chain::new(Settings::usual(), 2, samples, usual_capacity());
     made.reply
 }
 
