@@ -1,6 +1,8 @@
 // Chooses the gain for a frame of sound and puts it on the frame. The Rust's
 // adaptive_digital_gain_controller.
 
+#![tactic(auto)]
+
 ghost use Rattle.std.specs.Prelude.{◌≡◌};
 ghost use Rattle.adaptive_digital_gain_controller.specs.Target.{wanted, under_noise, under_envelope, target};
 ghost use Rattle.adaptive_digital_gain_controller.specs.Change.{per_frame, waits, increase, changed};

@@ -1,5 +1,7 @@
 // The bits of a float: read and made for every f32 and every number of 32 bits, a NaN's too.
 
+#![tactic(auto)]
+
 ghost use Rattle.std.specs.Prelude.{◌≡◌};
 ghost use Rattle.std.specs.Float.{binary32};
 ghost use Rattle.std.specs.Float.Ieee.{nan_bits};

@@ -11,6 +11,8 @@
 //
 // The memory is fixed: a strip of any length goes through.
 
+#![tactic(auto)]
+
 ghost use Rattle.io.specs.Counts.{IsPrefixLen};
 
 use strip_carry::{End, Run, Told, Way, end_of, told_of, way_of};

@@ -1,6 +1,8 @@
 // The whole box: the level of the speech, the headroom, the gain and the limiter, in that order, over one
 // frame of sound and five figures that were metered of it.
 
+#![tactic(auto)]
+
 ghost use Rattle.std.specs.Prelude.{◌≡◌, length};
 ghost use Rattle.units.specs.Replies.{done};
 ghost use Rattle.speech_level_estimator.specs.Calls as Levels;

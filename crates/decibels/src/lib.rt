@@ -1,6 +1,8 @@
 // Decibels to a ratio by document 01's own rule: a table of whole decibels, a table of sixteenths
 // and a straight line over what is left.
 
+#![tactic(auto)]
+
 ghost use Rattle.std.specs.Prelude.{◌≡◌, T};
 ghost use Rattle.decibels.specs.Ratio.{ratio_of, answer};
 ghost use Rattle.units.specs.Figures.{gain};

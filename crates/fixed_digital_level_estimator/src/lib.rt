@@ -1,6 +1,8 @@
 // The level of the sound, twenty times a frame: an envelope that rises at once and falls slowly. The
 // Rust's fixed_digital_level_estimator.
 
+#![tactic(auto)]
+
 ghost use Rattle.std.specs.Prelude.{◌≡◌, true, List, ◌*◌, ◌≤◌, ◌+◌, ◌%◌, length, drop};
 ghost use Rattle.frames.specs.Samples.{largest_level, all_within};
 ghost use Rattle.fixed_digital_level_estimator.specs.Lanes.{Raised, column, peak};

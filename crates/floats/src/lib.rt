@@ -1,6 +1,8 @@
 // f32 without surprises: the operations whose answer at a NaN, at an infinity or at a zero of
 // either sign is easily got wrong, each with one equation for every input.
 
+#![tactic(auto)]
+
 ghost use Rattle.std.specs.Prelude.{◌≡◌, cond};
 ghost use Rattle.std.specs.Float.Ieee.Scale.{finite};
 ghost use Rattle.floats.specs.Choice.{larger, smaller, clamp};

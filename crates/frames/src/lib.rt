@@ -1,6 +1,8 @@
 // A frame of sound: one lent f32 buffer, channel after channel. Its shape and its samples are
 // tested here; each part that changes samples lends a channel's part on by itself.
 
+#![tactic(auto)]
+
 mod squares;
 
 ghost use Rattle.std.specs.Prelude.{◌≡◌, length};

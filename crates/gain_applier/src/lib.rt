@@ -1,6 +1,8 @@
 // A gain put on a frame of sound, with a ramp from the last gain to the next one, and clipping if it
 // is set. The Rust's gain_applier.
 
+#![tactic(auto)]
+
 ghost use Rattle.std.specs.Prelude.{◌≡◌, ◌*◌, ◌≤◌, length};
 ghost use Rattle.frames.specs.Parts.{each_part};
 ghost use Rattle.gain_applier.specs.Sound.{close_to_one, scaled, ramped, clipped, finished, gained};

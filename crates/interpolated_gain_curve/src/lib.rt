@@ -1,6 +1,8 @@
 // From a level to the gain that keeps it below full scale, with counts of where the levels lay. The
 // Rust's interpolated_gain_curve.
 
+#![tactic(auto)]
+
 ghost use Rattle.std.specs.Prelude.{◌≡◌, T};
 ghost use Rattle.interpolated_gain_curve.specs.Gain.{gain_of, region_of, piece_of};
 ghost use Rattle.interpolated_gain_curve.specs.Curve.{fresh, passes, not_negative, counted, lasting, in_region, looked, read};

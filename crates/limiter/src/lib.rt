@@ -1,6 +1,8 @@
 // The limiter: what the gain curve makes of the level, put on each sample, and a clamp. The Rust's
 // limiter.
 
+#![tactic(auto)]
+
 ghost use Rattle.std.specs.Prelude.{◌≡◌, ◌*◌, ◌≤◌, ◌<◌, ◌+◌, length, take};
 ghost use Rattle.frames.specs.Parts.{each_part};
 ghost use Rattle.units.specs.Replies.{done};

@@ -1,5 +1,7 @@
 // The limiter's step over a limiter that is lent: for a caller that keeps the state where it stands.
 
+#![tactic(auto)]
+
 ghost use Rattle.std.specs.Prelude.{◌≡◌};
 ghost use Rattle.units.specs.Replies.{done};
 ghost use Rattle.limiter.specs.Scale.{FullScale};

@@ -1,1 +1,3 @@
 // Laws on lists, in specs/. There is no code here.
+
+#![tactic(auto)]

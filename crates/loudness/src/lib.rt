@@ -1,6 +1,8 @@
 // What a plain meter needs of 10 ms of sound: the sum of the squares and the peak, in whole numbers, exactly, and the
 // bytes by which a metering tells them. The samples come as a WAV file has them.
 
+#![tactic(auto)]
+
 ghost use Rattle.std.specs.Prelude.{◌≡◌, true, ◌++◌, ◌+◌, ◌*◌, ◌≤◌, max, length, take, drop};
 ghost use Rattle.wav_format.specs.Bytes.{little};
 ghost use Rattle.loudness.specs.Sound.{magnitude_of, squares_from, peak_from, over_channels, square_of, peak_of, is_sizes, is_frame, loudness_of};

@@ -2,6 +2,8 @@
 // function but the first answers a reply's number, 0 where it is done; a refused step or gap stores nothing in the
 // state or the frame. include/murzicanu.h declares them for C.
 
+#![tactic(auto)]
+
 ghost use Rattle.std.specs.Prelude.{◌≡◌};
 ghost use Rattle.units.specs.Replies.{done};
 ghost use Rattle.limiter.specs.Scale.{FullScale};

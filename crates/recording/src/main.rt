@@ -11,6 +11,8 @@
 //
 // The memory is fixed: a recording of any length goes through.
 
+#![tactic(auto)]
+
 mod input;
 mod levelling;
 mod metering;

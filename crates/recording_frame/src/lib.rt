@@ -1,5 +1,7 @@
 // A frame of a recording through the chain: bytes in, the levelled bytes out.
 
+#![tactic(auto)]
+
 ghost use Rattle.std.specs.Prelude.{◌≡◌, ◌≤◌, length};
 ghost use Rattle.recording_frame.specs.Levelling.{levelled};
 ghost use Rattle.recording_frame.specs.Steps.{room_for};

@@ -2,6 +2,8 @@
 // WAV file begin, what becomes of a frame and of the run, what a metering writes, and what is told. The program itself only
 // reads, writes and tells.
 
+#![tactic(auto)]
+
 pub mod answer;
 pub mod input;
 pub mod levelling;

@@ -4,6 +4,8 @@
 // A line ends with a line feed. What stands after the last line feed is cut, and is no question.
 // The memory is fixed: input of any length goes through, and a line of any length.
 
+#![tactic(auto)]
+
 mod applier;
 mod controller;
 mod curve;

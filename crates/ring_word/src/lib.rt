@@ -1,5 +1,7 @@
 // The words of a command that say how many peaks the protector remembers: `--ring N`.
 
+#![tactic(auto)]
+
 ghost use Rattle.std.specs.Prelude.{◌≡◌};
 ghost use Rattle.ring_word.specs.Words.{is_ring, is_digit, one_digit, two_digits, number_of, asked_by};
 

@@ -1,6 +1,8 @@
 // A run of adjacent speech frames: how long it is, and what a frame does to the two states that an
 // estimator keeps, a preliminary one and a reliable one.
 
+#![tactic(auto)]
+
 ghost use Rattle.std.specs.Prelude.{◌≡◌};
 ghost use Rattle.runs.specs.Runs.{speech, longer, turned};
 

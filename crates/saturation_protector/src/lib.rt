@@ -1,5 +1,7 @@
 // The headroom that the recent peaks of the speech ask for. The Rust's saturation_protector.
 
+#![tactic(auto)]
+
 ghost use Rattle.std.specs.Prelude.{◌≡◌, ◌≤◌, cond, true};
 ghost use Rattle.units.specs.Figures.{level as isLevel};
 ghost use Rattle.saturation_protector_buffer.specs.Rings.{slots};

@@ -1,6 +1,8 @@
 // A ring of recent peaks: a push into a full ring replaces the oldest. The Rust's
 // saturation_protector_buffer, with its size a field of the ring.
 
+#![tactic(auto)]
+
 ghost use Rattle.std.specs.Prelude.{◌≡◌, ◌<◌, ◌≤◌};
 ghost use Rattle.saturation_protector_buffer.specs.Rings.{slots, all_finite, start, same_items};
 ghost use Rattle.saturation_protector_buffer.specs.Ring.{largest, usual, is_capacity, fits, passes, push, items, said};

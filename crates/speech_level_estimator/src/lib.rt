@@ -1,6 +1,8 @@
 // The level of the speech, as a weighted average of the levels of speech frames. The Rust's
 // speech_level_estimator.
 
+#![tactic(auto)]
+
 ghost use Rattle.std.specs.Prelude.{◌≡◌, ◌-◌, if◌then◌else◌};
 ghost use Rattle.speech_level_estimator.specs.Average.{none, starting, passes, advanced, level};
 ghost use Rattle.speech_level_estimator.specs.Estimator.{starting_level, trusted, passes as passesEstimator, nothing, fresh, updated, interrupted};

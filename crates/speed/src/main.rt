@@ -6,6 +6,8 @@
 // channel (up to 480) and the frames. The answer is a line of two figures: a digest of all that the
 // part made, and 1 where it refused a frame. There may be as many lines as fit into 4,096 bytes.
 
+#![tactic(auto)]
+
 mod parts;
 mod sound;
 

@@ -7,6 +7,8 @@
 //
 // The memory is fixed: a strip of any length goes through.
 
+#![tactic(auto)]
+
 ghost use Rattle.io.specs.Counts.{IsPrefixLen};
 
 use ring_word::{Asked, ring_asked};

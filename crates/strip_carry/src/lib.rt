@@ -1,6 +1,8 @@
 // A strip carried to the other version: one of version 1 up to version 2, and one of version 2 back to version 1. Whole, from
 // one buffer to another; and block by block, of any length.
 
+#![tactic(auto)]
+
 ghost use Rattle.std.specs.Prelude.{◌≡◌, ◌/◌, ◌<◌, ◌≤◌, eqb, ◌++◌, length, drop, if◌then◌else◌};
 ghost use Rattle.units.specs.Replies.{done};
 ghost use Rattle.strip_format.specs.Format as Format;

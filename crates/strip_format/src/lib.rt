@@ -1,6 +1,8 @@
 // The strip: a head with the settings, then a record of figures for each frame, and in version 2 a gap where frames were
 // lost. Big-endian, floats as their bits. Heads, records and gaps are read from bytes and written into a lent buffer.
 
+#![tactic(auto)]
+
 ghost use Rattle.std.specs.Prelude.{◌≡◌, ◌&&◌, leb, ◌++◌, ◌+◌, ◌<◌, ◌≤◌, length, take, drop};
 ghost use Rattle.bits.specs.Floats.{float_of, pattern_of};
 ghost use Rattle.units.specs.Replies.{done};

@@ -1,6 +1,8 @@
 // A strip that comes in pieces. Bytes go in one after the other, however they are cut into blocks, and the head and
 // the records come out as soon as they are whole.
 
+#![tactic(auto)]
+
 ghost use Rattle.std.specs.Prelude.{◌≡◌, drop};
 ghost use Rattle.strip_format.specs.Calls.{read_head, read_of};
 ghost use Rattle.strip_reader.specs.Reader.{fresh, fresh_in, passes, asked, handed, is_more, step_of, head_fed, record_fed, fed, finished, next_of, next};

@@ -1,5 +1,7 @@
 // A strip run through a new chain over silent one-channel frames, block by block, with the lines that it prints.
 
+#![tactic(auto)]
+
 ghost use Rattle.std.specs.Prelude.{◌≡◌, ◌/◌, ◌<◌, ◌≤◌, ◌++◌, length, take, drop};
 ghost use Rattle.chain.specs.Calls.{told, called};
 ghost use Rattle.strip_lines.specs.Lines.{longest, number_of};

@@ -1,6 +1,8 @@
 // Lines of figures: a figure is a number of 32 bits in eight lower-case hexadecimal digits, which may
 // be the bits of an f32. It is read from a place of a line, and put at one.
 
+#![tactic(auto)]
+
 ghost use Rattle.std.specs.Prelude.{◌≡◌, ◌+◌, ◌<◌, ◌≤◌, length};
 ghost use Rattle.std.proofs.Math.Seq.{paste};
 ghost use Rattle.io.specs.Digits.{hex_digit_ascii as Digits·glyph, last_digits};

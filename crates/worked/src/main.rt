@@ -1,6 +1,8 @@
 // Document 01's worked examples that bear no star, run: each is printed with its outcome. Those that bear one
 // are proved, in a table under one claim: specs/Table.antt and specs/Claim.antt.
 
+#![tactic(auto)]
+
 use chain::Chain;
 use decibels::ratio;
 use saturation_protector_buffer::usual_capacity;

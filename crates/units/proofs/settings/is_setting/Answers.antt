@@ -6,18 +6,11 @@ use borrow.Author.Rules.{rules}
 use Rattle.floats.specs.Kinds.{is_negative_zero}
 use Rattle.units.specs.Ranges.{closed}
 use Rattle.units.specs.Settings.{setting}
-use Rattle.units.proofs.settings.is_setting.Statement.{statement}
-use Rattle.units.proofs.settings.is_setting.Tie as tie
-
-is-negative-zero-requires : tie.Need-is-negative-zero-requires
-is-negative-zero-requires c κs = search rules
+use Rattle.units.proofs.settings.is_setting.Goals as goal
 
 -- the definition, with what the call gave
 tested : (low x high : Float) (zero : Bool) → zero ≡ is_negative_zero x → closed low x high && not zero ≡ setting low x high
 tested low x high zero z = rw z
 
-returns : tie.Need-returns
-returns c = tested _ c.before.args.x _ _ c.is-negative-zero.ensures
-
-pub is-setting-spec : {M : Type 1} → statement M
-is-setting-spec = tie.close (tie.spec is-negative-zero-requires returns)
+pub returns : goal.returns
+returns c = tested _ c.args.x _ _ c.is_negative_zero.ensures

@@ -4,8 +4,7 @@ use mathlib.Core.Bool.{true, not}
 use lib.Dec.{T}
 use lib.Ieee.{Float, nan, inf, fin, eq, is_nan}
 use Rattle.bits.specs.Floats.{pattern_of}
-use Rattle.bits.proofs.bits_of.Statement.{statement}
-use Rattle.bits.proofs.bits_of.Tie as tie
+use Rattle.bits.proofs.bits_of.Goals as goal
 
 no_nan : (x : Float) → eq x x ≡ true → T (not (is_nan x))
 unfolding eq is_nan
@@ -13,16 +12,13 @@ no_nan nan h = subst T (sym h) tt
 no_nan (inf s) h = tt
 no_nan (fin s m e) h = tt
 
-float-to-bits-result : tie.Need-float-to-bits-result
-float-to-bits-result c = no_nan c.before.args.x c.if1.true
+pub float_to_bits-result : goal.float_to_bits-result
+float_to_bits-result c = no_nan c.args.x c.if-x.true
 
-returns : tie.Need-returns
+pub returns-then-x : goal.returns-then-x
 unfolding pattern_of
-returns c = rw c.if1.true
+returns-then-x c = rw c.if-x.true
 
-returns-2 : tie.Need-returns-2
+pub returns-else-x : goal.returns-else-x
 unfolding pattern_of
-returns-2 c = rw c.if1.false
-
-pub bits-of-spec : {M : Type 1} → statement M
-bits-of-spec = tie.close (tie.spec float-to-bits-result returns returns-2)
+returns-else-x c = rw c.if-x.false

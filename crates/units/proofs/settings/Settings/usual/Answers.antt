@@ -2,12 +2,8 @@
 use mathlib.Core.Path.{refl}
 use lib.Ieee.{neg, of_bits}
 use Rattle.units.specs.Settings.{usual}
-use Rattle.units.proofs.settings.Settings.usual.Statement.{statement}
-use Rattle.units.proofs.settings.Settings.usual.Tie as tie
+use Rattle.units.proofs.settings.Settings.usual.Goals as goal
 
-returns : tie.Need-returns
+pub returns : goal.returns
 unfolding usual neg of_bits
 returns c = refl
-
-pub usual-spec : {M : Type 1} → statement M
-usual-spec = tie.close (tie.spec returns)

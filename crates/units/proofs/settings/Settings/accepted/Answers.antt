@@ -5,20 +5,7 @@ use lib.Ieee.{Float, neg, of_bits, binary32, lt, le}
 use borrow.Author.Rules.{rules}
 use Rattle.units.specs.Settings.{setting, accepted}
 use Rattle.units.specs.declared.settings.Settings.{Settings}
-use Rattle.units.proofs.settings.Settings.accepted.Statement.{statement}
-use Rattle.units.proofs.settings.Settings.accepted.Tie as tie
-
-is-setting-requires : tie.Need-is-setting-requires
-is-setting-requires c κs = search rules
-
-is-setting-requires-2 : tie.Need-is-setting-requires-2
-is-setting-requires-2 c κs = search rules
-
-is-setting-requires-3 : tie.Need-is-setting-requires-3
-is-setting-requires-3 c κs = search rules
-
-is-setting-requires-4 : tie.Need-is-setting-requires-4
-is-setting-requires-4 c κs = search rules
+use Rattle.units.proofs.settings.Settings.accepted.Goals as goal
 
 -- the code's -90 is the definition's
 minus-ninety : neg (of_bits binary32 0x42b4_0000) ≡ of_bits binary32 0xc2b4_0000
@@ -36,17 +23,7 @@ unfolding accepted
 all-five s a b c d low e h i g n =
     rw (and_assoc a (lt (of_bits binary32 0x0000_0000) s.largest.0) (le s.largest.0 (of_bits binary32 0x4248_0000)), h, i, g, n, e)
 
-returns : tie.Need-returns
+pub returns : goal.returns
 returns c =
-    all-five _ _ _ _ _ _ minus-ninety c.before.before.before.before.before.is-setting.ensures c.before.before.is-setting2.ensures c.before.is-setting3.ensures
-    c.is-setting4.ensures
-
-pub accepted-spec : {M : Type 1} → statement M
-accepted-spec =
-    tie.close
-    (tie.spec
-    is-setting-requires
-    is-setting-requires-2
-    is-setting-requires-3
-    is-setting-requires-4
-    returns)
+    all-five _ _ _ _ _ _ minus-ninety c.is_setting.ensures c.is_setting-2.ensures c.is_setting-3.ensures
+    c.is_setting-4.ensures

@@ -1,0 +1,8 @@
+-- `floats::smaller` meets its contract: the choice is the definition's. Assumes nothing.
+use borrow.Author.Rules.{rules}
+use Rattle.floats.specs.Choice.{smaller}
+use Rattle.floats.proofs.smaller.Goals as goal
+
+pub returns : goal.returns
+unfolding smaller
+returns c = c.pick_f32.ensures
