@@ -22,7 +22,7 @@ const LARGEST: f32 = 355.0;
 
 // What is known of a frame: the probability of speech, the level of the speech and whether it is trusted,
 // the level of the noise, the headroom, and the limiter's envelope.
-#[derive(Drop)]
+#[derive(Clone, Copy)]
 pub struct Info {
     pub probability: f32,
     pub level: Dbfs,
@@ -34,7 +34,7 @@ pub struct Info {
 
 // The applier, the settings, how many adjacent speech frames are asked for before the gain may rise, by
 // how many dB it may change in a frame, how many of those frames are still to come, and the gain in dB.
-#[derive(Drop)]
+#[derive(Clone, Copy)]
 pub struct Controller {
     pub applier: Applier,
     pub settings: Settings,
@@ -46,7 +46,7 @@ pub struct Controller {
 
 // A reply's number, and the controller that goes on from there: the one that came in where it is refused,
 // and all 0 and false where it is a new one.
-#[derive(Drop)]
+#[derive(Clone, Copy)]
 pub struct Next {
     pub reply: u32,
     pub controller: Controller,

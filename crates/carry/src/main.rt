@@ -29,14 +29,14 @@ const LAST: u64 = 0x7fff_ffff_ffff_ffff;
 const REPLY_FILENO: i32 = 3;
 
 // How many bytes of a block were read, none at the strip's end, and whether the read went well.
-#[derive(Drop)]
+#[derive(Clone, Copy)]
 struct Filled {
     n: usize,
     well: bool,
 }
 
 // A reading: the run at its end, and whether each read went well, and each write.
-#[derive(Drop)]
+#[derive(Clone, Copy)]
 struct Gone {
     run: Run,
     read: bool,

@@ -28,7 +28,7 @@ use units::settings::Settings;
 const INITIAL: f32 = 20.0;
 
 // The four parts.
-#[derive(Drop)]
+#[derive(Clone, Copy)]
 pub struct Chain {
     pub estimator: Estimator,
     pub protector: Protector,
@@ -38,7 +38,7 @@ pub struct Chain {
 
 // What a frame was to the chain: no speech; speech of a run that still misses so many frames; or speech
 // whose level and headroom are published.
-#[derive(Drop)]
+#[derive(Clone, Copy)]
 pub enum Answer {
     NonSpeech,
     Waiting(u32),
@@ -46,7 +46,7 @@ pub enum Answer {
 }
 
 // A reply's number, and the chain that was made: all 0, false and identity where it is refused.
-#[derive(Drop)]
+#[derive(Clone, Copy)]
 pub struct Made {
     pub reply: u32,
     pub chain: Chain,
@@ -54,7 +54,7 @@ pub struct Made {
 
 // A reply's number, what the frame was, and the chain that goes on from there: no speech and the chain that
 // came in, where it is refused.
-#[derive(Drop)]
+#[derive(Clone, Copy)]
 pub struct Next {
     pub reply: u32,
     pub answer: Answer,
@@ -62,14 +62,14 @@ pub struct Next {
 }
 
 // A reply's number, and the chain that goes on after a gap: the one that came in, where it is refused.
-#[derive(Drop)]
+#[derive(Clone, Copy)]
 pub struct Gapped {
     pub reply: u32,
     pub chain: Chain,
 }
 
 // What a chain publishes: the level of the speech, the headroom, the gain, and whether the level is trusted.
-#[derive(Drop)]
+#[derive(Clone, Copy)]
 pub struct Published {
     pub level: Dbfs,
     pub headroom: Db,
@@ -78,21 +78,21 @@ pub struct Published {
 }
 
 // A reply's number, and what the chain publishes: all 0 and false where it is refused.
-#[derive(Drop)]
+#[derive(Clone, Copy)]
 pub struct Reading {
     pub reply: u32,
     pub published: Published,
 }
 
 // A reply's number, and the samples of a channel that the chain was made for: 0 where it is refused.
-#[derive(Drop)]
+#[derive(Clone, Copy)]
 pub struct SamplesRead {
     pub reply: u32,
     pub samples: usize,
 }
 
 // What is known of a frame before the gain: the two parts that have heard it, and what the controller is told.
-#[derive(Drop)]
+#[derive(Clone, Copy)]
 struct Heard {
     estimator: Estimator,
     protector: Protector,

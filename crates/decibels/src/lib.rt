@@ -27,7 +27,7 @@ const SIXTEENTH: [f32; 16] = [
 ];
 
 // A reply's number, and the ratio: 0 where it is refused.
-#[derive(Drop)]
+#[derive(Clone, Copy)]
 pub struct Answer {
     pub reply: u32,
     pub ratio: f32,

@@ -20,7 +20,7 @@ const RISE: f32 = 0.0028740764;
 // The envelope's last value (the Rust's `filter_state_level`), the samples of a channel and those of a
 // sub-frame.
 #[repr(C)]
-#[derive(Drop)]
+#[derive(Clone, Copy)]
 pub struct Estimator {
     pub level: f32,
     pub samples: usize,
@@ -29,14 +29,14 @@ pub struct Estimator {
 
 // A reply's number, and the estimator that goes on from there: the one that came in where it is
 // refused, and all 0 where it is a new one.
-#[derive(Drop)]
+#[derive(Clone, Copy)]
 pub struct Next {
     pub reply: u32,
     pub estimator: Estimator,
 }
 
 // A reply's number, the estimator that goes on from there, and the envelope: all 0 where it is refused.
-#[derive(Drop)]
+#[derive(Clone, Copy)]
 pub struct Levels {
     pub reply: u32,
     pub estimator: Estimator,
@@ -44,7 +44,7 @@ pub struct Levels {
 }
 
 // A reply's number, and a level: 0 where it is refused.
-#[derive(Drop)]
+#[derive(Clone, Copy)]
 pub struct Heard {
     pub reply: u32,
     pub level: LinearS16,
@@ -52,7 +52,7 @@ pub struct Heard {
 
 // What was found so far in every fourth sample each, since the machine takes four at a time: the
 // highest samples, the lowest, and the sums, which are numbers only where all samples are.
-#[derive(Drop)]
+#[derive(Clone, Copy)]
 struct Lanes {
     a: f32,
     b: f32,
@@ -69,7 +69,7 @@ struct Lanes {
 }
 
 // The peaks of a frame, and whether all its samples are within the bound.
-#[derive(Drop)]
+#[derive(Clone, Copy)]
 struct Peaks {
     tame: bool,
     peaks: [f32; 20],

@@ -26,7 +26,7 @@ const BLOCK: usize = 48;
 
 // Whether samples are clipped, the gain factor that the last frame ended with, the one to end the next
 // frame with, the samples of a channel (-1 before the first frame) and 1 over them.
-#[derive(Drop)]
+#[derive(Clone, Copy)]
 pub struct Applier {
     pub clip: bool,
     pub last: f32,
@@ -37,14 +37,14 @@ pub struct Applier {
 
 // A reply's number, and the applier that goes on from there: the one that came in where it is refused,
 // and all 0 and false where it is a new one.
-#[derive(Drop)]
+#[derive(Clone, Copy)]
 pub struct Next {
     pub reply: u32,
     pub applier: Applier,
 }
 
 // A reply's number, and a gain factor: 0 where it is refused.
-#[derive(Drop)]
+#[derive(Clone, Copy)]
 pub struct Factor {
     pub reply: u32,
     pub factor: f32,

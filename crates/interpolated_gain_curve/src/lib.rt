@@ -80,7 +80,7 @@ const INTERCEPTS: [f32; 32] = [
 // How many levels lay in each region, whether there was one, the region of the last one, and how
 // many look-ups long it has been that region: the Rust's Stats. A count rolls over to 0 after the
 // largest; the duration is held at its largest.
-#[derive(Drop)]
+#[derive(Clone, Copy)]
 pub struct Curve {
     pub identity: u64,
     pub knee: u64,
@@ -93,7 +93,7 @@ pub struct Curve {
 
 // A reply's number, the curve that goes on from there (the one that came in where it is refused), and
 // the gain: 0 where it is refused.
-#[derive(Drop)]
+#[derive(Clone, Copy)]
 pub struct Looked {
     pub reply: u32,
     pub curve: Curve,
@@ -101,7 +101,7 @@ pub struct Looked {
 }
 
 // A reply's number, and the statistics: all 0 and false where it is refused.
-#[derive(Drop)]
+#[derive(Clone, Copy)]
 pub struct Read {
     pub reply: u32,
     pub stats: Curve,

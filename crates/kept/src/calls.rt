@@ -18,7 +18,7 @@ use units::settings::Settings;
 // What a frame was: 0 no speech, 1 speech that waits, with the number of frames that are missing, 2 speech
 // that is published, with its level and headroom. What does not belong to the kind is 0.
 #[repr(C)]
-#[derive(Drop)]
+#[derive(Clone, Copy)]
 pub struct KeptAnswer {
     pub kind: u32,
     pub missing: u32,
@@ -29,7 +29,7 @@ pub struct KeptAnswer {
 // What a chain publishes: the level of the speech, the headroom, the gain, and 1 where the level is trusted,
 // otherwise 0.
 #[repr(C)]
-#[derive(Drop)]
+#[derive(Clone, Copy)]
 pub struct Published {
     pub level: Dbfs,
     pub headroom: Db,
@@ -39,14 +39,14 @@ pub struct Published {
 
 // A reply's number, and a limiter: a new one, all 0 where it is refused; or the one that goes on, which is the one
 // that came in where it is refused.
-#[derive(Drop)]
+#[derive(Clone, Copy)]
 pub struct NewLimiter {
     pub reply: u32,
     pub limiter: KeptLimiter,
 }
 
 // A reply's number, and the envelope's last value: 0 where it is refused.
-#[derive(Drop)]
+#[derive(Clone, Copy)]
 pub struct LevelRead {
     pub reply: u32,
     pub level: LinearS16,
@@ -54,7 +54,7 @@ pub struct LevelRead {
 
 // A reply's number, and a chain: a new one, all 0 where it is refused; or the one that goes on after a gap, which is
 // the one that came in where it is refused.
-#[derive(Drop)]
+#[derive(Clone, Copy)]
 pub struct NewChain {
     pub reply: u32,
     pub chain: KeptChain,
@@ -62,7 +62,7 @@ pub struct NewChain {
 
 // A reply's number, what the frame was, and the chain that goes on: no speech and the one that came in, where it
 // is refused.
-#[derive(Drop)]
+#[derive(Clone, Copy)]
 pub struct NextChain {
     pub reply: u32,
     pub answer: KeptAnswer,
@@ -70,7 +70,7 @@ pub struct NextChain {
 }
 
 // A reply's number, and what the chain publishes: all 0 where it is refused.
-#[derive(Drop)]
+#[derive(Clone, Copy)]
 pub struct Reading {
     pub reply: u32,
     pub published: Published,

@@ -17,7 +17,7 @@ use units::settings::Settings;
 
 // The level of the speech: speech_level_estimator's state.
 #[repr(C)]
-#[derive(Drop)]
+#[derive(Clone, Copy)]
 pub struct KeptLevel {
     pub settings: Settings,
     pub threshold: u32,
@@ -31,7 +31,7 @@ pub struct KeptLevel {
 
 // The gain on its way: gain_applier's state.
 #[repr(C)]
-#[derive(Drop)]
+#[derive(Clone, Copy)]
 pub struct KeptApplier {
     pub clip: u32,
     pub last: f32,
@@ -42,7 +42,7 @@ pub struct KeptApplier {
 
 // The gain: adaptive_digital_gain_controller's state.
 #[repr(C)]
-#[derive(Drop)]
+#[derive(Clone, Copy)]
 pub struct KeptController {
     pub applier: KeptApplier,
     pub settings: Settings,
@@ -54,7 +54,7 @@ pub struct KeptController {
 
 // The gain curve's counts: interpolated_gain_curve's state.
 #[repr(C)]
-#[derive(Drop)]
+#[derive(Clone, Copy)]
 pub struct KeptCurve {
     pub identity: u64,
     pub knee: u64,
@@ -67,7 +67,7 @@ pub struct KeptCurve {
 
 // The envelope: fixed_digital_level_estimator's state.
 #[repr(C)]
-#[derive(Drop)]
+#[derive(Clone, Copy)]
 pub struct KeptEnvelope {
     pub level: f32,
     pub samples: u32,
@@ -76,7 +76,7 @@ pub struct KeptEnvelope {
 
 // The limiter's state. The carried factor stands before the curve, whose numbers of 64 bits then need no hole.
 #[repr(C)]
-#[derive(Drop)]
+#[derive(Clone, Copy)]
 pub struct KeptLimiter {
     pub estimator: KeptEnvelope,
     pub carried: f32,
@@ -85,7 +85,7 @@ pub struct KeptLimiter {
 
 // The chain's state.
 #[repr(C)]
-#[derive(Drop)]
+#[derive(Clone, Copy)]
 pub struct KeptChain {
     pub estimator: KeptLevel,
     pub protector: Protector,

@@ -26,7 +26,7 @@ const HIGHEST: f32 = 32767.0;
 const BLOCK: usize = 48;
 
 // The level estimator, the gain curve with its counts, and the factor that the last frame ended with.
-#[derive(Drop)]
+#[derive(Clone, Copy)]
 pub struct Limiter {
     pub estimator: Estimator,
     pub curve: Curve,
@@ -35,14 +35,14 @@ pub struct Limiter {
 
 // A reply's number, and the limiter that goes on from there: the one that came in where it is refused,
 // and all 0, false and identity where it is a new one.
-#[derive(Drop)]
+#[derive(Clone, Copy)]
 pub struct Next {
     pub reply: u32,
     pub limiter: Limiter,
 }
 
 // A reply's number, and a level: 0 where it is refused.
-#[derive(Drop)]
+#[derive(Clone, Copy)]
 pub struct Heard {
     pub reply: u32,
     pub level: LinearS16,
@@ -154,7 +154,7 @@ fn fill_first(part: &mut [f32], start: f32, end: f32)
 }
 
 // The gains of twenty levels, and the curve that has counted them.
-#[derive(Drop)]
+#[derive(Clone, Copy)]
 struct Gains {
     curve: Curve,
     gains: [f32; 20],

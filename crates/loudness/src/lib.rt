@@ -17,7 +17,7 @@ pub const RECORD_BYTES: usize = 12;
 
 // A reply's number; the largest sum of the squares of a channel's samples, and the largest magnitude of any sample: both 0
 // where it is refused.
-#[derive(Drop)]
+#[derive(Clone, Copy)]
 pub struct Loud {
     pub reply: u32,
     pub square: u64,
@@ -25,7 +25,7 @@ pub struct Loud {
 }
 
 // The same of one channel.
-#[derive(Drop)]
+#[derive(Clone, Copy)]
 struct Channel {
     square: u64,
     peak: u64,

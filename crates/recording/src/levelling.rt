@@ -14,7 +14,7 @@ use wav_format::head::LONGEST_HEAD;
 
 // What stays the same from frame to frame: where the strip is read and the levelled file is written, the channels, the
 // samples of a channel, the mask, and the size that the file says of all samples.
-#[derive(Drop)]
+#[derive(Clone, Copy)]
 pub(crate) struct Desk {
     pub strip: i32,
     pub out: i32,
@@ -25,7 +25,7 @@ pub(crate) struct Desk {
 }
 
 // The run, and the strip beside it.
-#[derive(Drop)]
+#[derive(Clone, Copy)]
 pub(crate) struct Both {
     pub run: Run,
     pub source: Source,
@@ -33,7 +33,7 @@ pub(crate) struct Both {
 
 // The same after what came out of the strip for a frame, how many bytes of the frame are written, and whether it still waits
 // for its figures.
-#[derive(Drop)]
+#[derive(Clone, Copy)]
 struct Taken {
     both: Both,
     n: usize,

@@ -39,7 +39,7 @@ use wave::find;
 
 // What the command asks for: the strip, the number of the word that may name the output, and how many peaks the protector
 // remembers.
-#[derive(Drop)]
+#[derive(Clone, Copy)]
 struct Wish {
     strip: i32,
     output: usize,

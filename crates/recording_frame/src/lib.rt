@@ -17,7 +17,7 @@ const CHANNEL_SAMPLES: usize = 480;
 const MOST_SAMPLES: usize = 3840;
 
 // A reply's number, and the chain that goes on: the one that came in, where the frame is refused.
-#[derive(Drop)]
+#[derive(Clone, Copy)]
 pub struct Levelled {
     pub reply: u32,
     pub chain: Chain,

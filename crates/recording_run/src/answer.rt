@@ -8,7 +8,7 @@ use crate::levelling::{Run, Told};
 use crate::metering::Meter;
 
 // Whether anything is said, and the number: 0 where all went well, otherwise the reply of a refusal.
-#[derive(Drop)]
+#[derive(Clone, Copy)]
 pub struct Answer {
     pub tell: bool,
     pub reply: u32,

@@ -4,7 +4,7 @@ ghost use Rattle.std.specs.Prelude.{◌≡◌, ◌+◌, ◌-◌, ◌≤◌, min}
 ghost use Rattle.recording_run.specs.Input.{empty_buffer, after_read};
 
 // How many bytes of a buffer are filled, whether there may be more to read, and whether a read failed.
-#[derive(Drop)]
+#[derive(Clone, Copy)]
 pub struct Filled {
     pub n: usize,
     pub more: bool,

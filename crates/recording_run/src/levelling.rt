@@ -31,7 +31,7 @@ const MINUTE: u64 = 6000;
 // record of this number; that a record is refused with this reply, and its number; that so many bytes of the samples are
 // missing; that the file says that it has no samples, and goes on behind them; or that the strip goes on with the record of
 // this number after the recording.
-#[derive(Drop)]
+#[derive(Clone, Copy)]
 pub enum Told {
     Nothing,
     Minute(u64),
@@ -45,7 +45,7 @@ pub enum Told {
 // How far a run is: the chain, the number of the next record, which may be a gap, how many frames are levelled, how many
 // bytes of samples are still to come, whether it goes on, whether all went well so far, and the reply with which the strip
 // was refused, which is 0 where it was not.
-#[derive(Drop)]
+#[derive(Clone, Copy)]
 pub struct Run {
     pub chain: Chain,
     pub number: u64,
@@ -57,7 +57,7 @@ pub struct Run {
 }
 
 // Whether it is known how many bytes of samples there are; how many the levelled file says; and how many are read, at most.
-#[derive(Drop)]
+#[derive(Clone, Copy)]
 pub struct Extent {
     pub known: bool,
     pub size: u32,
@@ -65,7 +65,7 @@ pub struct Extent {
 }
 
 // A reply's number, how many bytes the head of the levelled file has, and the run before its first frame.
-#[derive(Drop)]
+#[derive(Clone, Copy)]
 pub struct Begun {
     pub reply: u32,
     pub head: usize,
@@ -74,7 +74,7 @@ pub struct Begun {
 
 // The run after what came out of the strip for a frame, what is told of it, how many bytes of the frame are written, and
 // whether the frame still waits for its figures, since a gap came.
-#[derive(Drop)]
+#[derive(Clone, Copy)]
 pub struct Turn {
     pub run: Run,
     pub told: Told,

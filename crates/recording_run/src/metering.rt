@@ -10,7 +10,7 @@ use loudness::{FORMAT_BYTES, RECORD_BYTES, put_format, put_loudness};
 use units::replies::DONE;
 
 // How far a metering is: how many bytes of samples are still to come, whether it goes on, and whether all went well so far.
-#[derive(Drop)]
+#[derive(Clone, Copy)]
 pub struct Meter {
     pub left: usize,
     pub more: bool,
@@ -18,7 +18,7 @@ pub struct Meter {
 }
 
 // The metering before its first 10 ms or after some, and how many bytes are written.
-#[derive(Drop)]
+#[derive(Clone, Copy)]
 pub struct Metered {
     pub meter: Meter,
     pub n: usize,

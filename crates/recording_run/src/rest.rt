@@ -8,7 +8,7 @@ use strip_reader::Got;
 
 // The run after what came out of the strip, whether the strip goes on, whether more is to be drawn, since a gap came, and
 // whether a read failed.
-#[derive(Drop)]
+#[derive(Clone, Copy)]
 pub struct Rest {
     pub run: Run,
     pub goes: bool,

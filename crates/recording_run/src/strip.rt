@@ -6,7 +6,7 @@ ghost use Rattle.recording_run.specs.Strip.{new_source, drawn_of, drawn_from, re
 use strip_reader::{Got, Reader, is_more};
 
 // A reader, the place in the block up to which the bytes are used, and how many bytes of the block are filled.
-#[derive(Drop)]
+#[derive(Clone, Copy)]
 pub struct Source {
     pub reader: Reader,
     pub at: usize,
@@ -14,7 +14,7 @@ pub struct Source {
 }
 
 // What came out of the strip, the source that goes on, and whether a block is to be read before anything comes out.
-#[derive(Drop)]
+#[derive(Clone, Copy)]
 pub struct Drawn {
     pub source: Source,
     pub got: Got,

@@ -15,7 +15,7 @@ pub const SKIP_BYTES: usize = 4096;
 // Why there are no samples to level: a read failed, which was told; the file does not start as a WAV file does; it ends
 // before its samples; it says no format before them; its format has fewer than 16 bytes, or is not 16-bit PCM, or
 // has another group of samples than two bytes for each channel, or a number of channels or a rate that is not taken.
-#[derive(Drop)]
+#[derive(Clone, Copy)]
 pub enum Fault {
     Unread,
     NoWave,
@@ -30,7 +30,7 @@ pub enum Fault {
 
 // Where the search is: at the twelve bytes of the start, at the head of a chunk, in a format chunk of so many bytes, or so
 // many bytes before the next chunk; or it has found samples, of so many bytes, or ended.
-#[derive(Drop)]
+#[derive(Clone, Copy)]
 pub enum Stage {
     Start,
     Chunk,
@@ -42,7 +42,7 @@ pub enum Stage {
 
 // Where the search is, and the channels, the samples of a channel in 10 ms and the mask: all 0 as long as no format has
 // come.
-#[derive(Drop)]
+#[derive(Clone, Copy)]
 pub struct Search {
     pub stage: Stage,
     pub channels: usize,

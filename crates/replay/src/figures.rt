@@ -30,7 +30,7 @@ pub type Desk = [u32; FIGURES];
 
 // What a part answers: the reply's number, where on the desk the figures stand that are shown of the part,
 // how many those are, and how many results there are.
-#[derive(Drop)]
+#[derive(Clone, Copy)]
 pub struct Reply {
     pub number: u32,
     pub from: usize,
@@ -75,7 +75,7 @@ pub(crate) fn wide(n: u32) -> usize {
 }
 
 // The first three figures of a question.
-#[derive(Drop)]
+#[derive(Clone, Copy)]
 pub struct Given {
     pub first: u32,
     pub second: u32,

@@ -9,7 +9,7 @@ use std::num::wrapping_add_usize;
 
 // What a line says: whether it is a name and then figures, where the name ends, and how many figures
 // follow.
-#[derive(Drop)]
+#[derive(Clone, Copy)]
 pub struct Asked {
     pub ok: bool,
     pub name: usize,
@@ -57,7 +57,7 @@ pub const MOST: usize = 3840;
 
 // What a line asks: the number of the part, which is 0 where it asks none; the letter of its name in the part's
 // table; and how many samples it has, which are its last figures.
-#[derive(Drop)]
+#[derive(Clone, Copy)]
 pub struct Wanted {
     pub part: u32,
     pub word: u8,

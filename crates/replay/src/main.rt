@@ -37,7 +37,7 @@ const ENOUGH: usize = 30000;
 
 // How far the run is: how many bytes of the line that is being read are kept, how many bytes of
 // answers wait to be written, and whether there may be more to read.
-#[derive(Drop)]
+#[derive(Clone, Copy)]
 struct Run {
     kept: usize,
     waiting: usize,

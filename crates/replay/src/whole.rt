@@ -88,7 +88,7 @@ fn read(desk: &Desk, given: bool) -> Chain {
 }
 
 // The case of an answer and its values.
-#[derive(Drop)]
+#[derive(Clone, Copy)]
 struct Case {
     number: u32,
     missing: u32,

@@ -9,7 +9,7 @@ use saturation_protector_buffer::{is_capacity, usual_capacity};
 
 // What the first two words of a command ask for: whether that can be had, the capacity, and the number of the first word
 // behind them: 3, or 1 where they say no capacity, and then it is the usual one.
-#[derive(Drop)]
+#[derive(Clone, Copy)]
 pub struct Asked {
     pub ok: bool,
     pub capacity: u32,

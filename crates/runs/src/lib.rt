@@ -11,7 +11,7 @@ pub const SPEECH: f32 = 0.95;
 
 // What a frame does: how long the run is after it, whether the preliminary state is kept as the reliable
 // one, whether it is thrown away for the reliable one, and whether results are published.
-#[derive(Drop)]
+#[derive(Clone, Copy)]
 pub struct Turn {
     pub count: u32,
     pub keep: bool,

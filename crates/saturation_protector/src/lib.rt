@@ -36,7 +36,7 @@ const MOST: f32 = 25.0;
 // The headroom, the recent peaks, the largest peak since the last push, and how many milliseconds ago
 // that was. The Rust's SaturationProtectorState.
 #[repr(C)]
-#[derive(Drop)]
+#[derive(Clone, Copy)]
 pub struct Peaks {
     pub headroom: f32,
     pub ring: Ring,
@@ -47,7 +47,7 @@ pub struct Peaks {
 // The headroom to start with, how many adjacent speech frames are asked for, how many there are, the
 // headroom that is published, and the two states, whose rings have one capacity.
 #[repr(C)]
-#[derive(Drop)]
+#[derive(Clone, Copy)]
 pub struct Protector {
     pub initial: f32,
     pub threshold: u32,
@@ -59,14 +59,14 @@ pub struct Protector {
 
 // A reply's number, and the protector that goes on from there: the one that came in where it is refused,
 // and all 0 where it is a new one.
-#[derive(Drop)]
+#[derive(Clone, Copy)]
 pub struct Next {
     pub reply: u32,
     pub protector: Protector,
 }
 
 // A reply's number, and the published headroom: 0 where it is refused.
-#[derive(Drop)]
+#[derive(Clone, Copy)]
 pub struct Headroom {
     pub reply: u32,
     pub headroom: Db,

@@ -25,7 +25,7 @@ const USUAL: u32 = 4;
 // many peaks there are. All three are numbers of 32 bits, so that a struct that holds a ring has no hole beside it
 // in C's layout.
 #[repr(C)]
-#[derive(Drop)]
+#[derive(Clone, Copy)]
 pub struct Ring {
     pub stored: [f32; STORAGE],
     pub capacity: u32,
@@ -34,7 +34,7 @@ pub struct Ring {
 }
 
 // The oldest peak, if there is one: the Rust's `Option<f32>`.
-#[derive(Drop)]
+#[derive(Clone, Copy)]
 pub enum Front {
     None,
     Oldest(Dbfs),
@@ -42,35 +42,35 @@ pub enum Front {
 
 // A reply's number, and the ring that goes on from there: the one that came in where it is refused, and all 0 where
 // it is a new one.
-#[derive(Drop)]
+#[derive(Clone, Copy)]
 pub struct Next {
     pub reply: u32,
     pub ring: Ring,
 }
 
 // A reply's number, and the oldest peak: none where it is refused.
-#[derive(Drop)]
+#[derive(Clone, Copy)]
 pub struct Found {
     pub reply: u32,
     pub front: Front,
 }
 
 // A reply's number, and how many peaks there are: 0 where it is refused.
-#[derive(Drop)]
+#[derive(Clone, Copy)]
 pub struct Counted {
     pub reply: u32,
     pub size: usize,
 }
 
 // A reply's number, and how many peaks the ring can hold: 0 where it is refused.
-#[derive(Drop)]
+#[derive(Clone, Copy)]
 pub struct Held {
     pub reply: u32,
     pub capacity: u32,
 }
 
 // A reply's number, and whether two rings hold the same peaks: not, where it is refused.
-#[derive(Drop)]
+#[derive(Clone, Copy)]
 pub struct Compared {
     pub reply: u32,
     pub equal: bool,

@@ -32,7 +32,7 @@ const BELOW: f32 = -20.0;
 // A weighted average of levels: how many milliseconds of speech are left until it is trusted, the sum of
 // the levels by their weights, and the sum of the weights. The Rust's LevelEstimatorState.
 #[repr(C)]
-#[derive(Drop)]
+#[derive(Clone, Copy)]
 pub struct Average {
     pub left: u32,
     pub sum: f32,
@@ -41,7 +41,7 @@ pub struct Average {
 
 // The settings, how many adjacent speech frames are asked for, the level to start with, the two states,
 // the level that is published, whether it is trusted, and how many adjacent speech frames there are.
-#[derive(Drop)]
+#[derive(Clone, Copy)]
 pub struct Estimator {
     pub settings: Settings,
     pub threshold: u32,
@@ -55,21 +55,21 @@ pub struct Estimator {
 
 // A reply's number, and the estimator that goes on from there: the one that came in where it is refused,
 // and all 0 and false where it is a new one.
-#[derive(Drop)]
+#[derive(Clone, Copy)]
 pub struct Next {
     pub reply: u32,
     pub estimator: Estimator,
 }
 
 // A reply's number, and the published level: 0 where it is refused.
-#[derive(Drop)]
+#[derive(Clone, Copy)]
 pub struct Level {
     pub reply: u32,
     pub level: Dbfs,
 }
 
 // A reply's number, and whether the level is trusted: not, where it is refused.
-#[derive(Drop)]
+#[derive(Clone, Copy)]
 pub struct Confidence {
     pub reply: u32,
     pub confident: bool,

@@ -26,7 +26,7 @@ const RING: u32 = 4;
 
 // What is asked: the part, the sound, the channels, the samples of each, and the frames. All of them
 // are read when the program runs, so that no part is compiled for one size.
-#[derive(Drop)]
+#[derive(Clone, Copy)]
 pub struct Ask {
     pub part: u32,
     pub sound: u32,
@@ -36,7 +36,7 @@ pub struct Ask {
 }
 
 // The digest of all that was made, and whether a frame was refused.
-#[derive(Drop)]
+#[derive(Clone, Copy)]
 pub struct Outcome {
     pub digest: u32,
     pub refused: bool,

@@ -78,7 +78,7 @@ pub(crate) fn mix(before: u32, x: f32) -> u32 {
 
 // How far a run has come: the noise's number to go on from, the digest, the figures of the frame, and a level for
 // the curve.
-#[derive(Drop)]
+#[derive(Clone, Copy)]
 pub struct Tape {
     pub seed: u64,
     pub digest: u32,

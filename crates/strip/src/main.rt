@@ -22,7 +22,7 @@ const BLOCK: usize = 512;
 const REPLY_FILENO: i32 = 3;
 
 // How many bytes of a block were read, none at the input's end, and whether the read went well.
-#[derive(Drop)]
+#[derive(Clone, Copy)]
 struct Filled {
     n: usize,
     well: bool,

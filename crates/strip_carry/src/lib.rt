@@ -24,7 +24,7 @@ use units::replies::{DONE, ROOM, UNSAID};
 
 // A reply's number, the record that it is about, which is 0 for the head and where nothing is refused, and how many bytes
 // the carried strip has: 0 where it is refused.
-#[derive(Drop)]
+#[derive(Clone, Copy)]
 pub struct Carried {
     pub reply: u32,
     pub number: u64,
@@ -34,7 +34,7 @@ pub struct Carried {
 // What was seen of a strip so far: the version that it is carried to; the number of what comes next, 0 for the head; whether
 // the strip goes on; the reply, which is 9 from the first thing on that cannot be said, or what the strip is refused with,
 // and the record that it is about; the threshold, 0 before the head; and how many bytes were put out.
-#[derive(Drop)]
+#[derive(Clone, Copy)]
 pub struct Tally {
     pub to: Version,
     pub number: u64,
@@ -47,7 +47,7 @@ pub struct Tally {
 
 // How far a strip is carried: its reader, what was seen of it, and how many bytes of it came, which is where its next block
 // begins.
-#[derive(Drop)]
+#[derive(Clone, Copy)]
 pub struct Run {
     pub reader: Reader,
     pub tally: Tally,
@@ -55,7 +55,7 @@ pub struct Run {
 }
 
 // The tally that goes on, and how many bytes were put out.
-#[derive(Drop)]
+#[derive(Clone, Copy)]
 struct Line {
     tally: Tally,
     length: usize,
@@ -63,7 +63,7 @@ struct Line {
 
 // A reply's number, the run that goes on, and how many bytes were put out: the run that came in and none, where the buffer is
 // refused.
-#[derive(Drop)]
+#[derive(Clone, Copy)]
 pub struct Taken {
     pub reply: u32,
     pub run: Run,
@@ -71,7 +71,7 @@ pub struct Taken {
 }
 
 // Which way a strip is carried: up to version 2, back to version 1; or a word that says neither.
-#[derive(Drop)]
+#[derive(Clone, Copy)]
 pub enum Way {
     None,
     Up,
@@ -80,7 +80,7 @@ pub enum Way {
 
 // What is told once a strip was read for the first time: nothing, where a read failed; how many bytes the carried strip has;
 // or the reply's number of its refusal, and the record that it is about.
-#[derive(Drop)]
+#[derive(Clone, Copy)]
 pub enum Told {
     Nothing,
     Size(u64),
@@ -89,7 +89,7 @@ pub enum Told {
 
 // What is told at the end: nothing, where a read, a write or the close of the output failed; that the strip is not the one
 // that was read first; or that all is well.
-#[derive(Drop)]
+#[derive(Clone, Copy)]
 pub enum End {
     Nothing,
     Changed,

@@ -55,7 +55,7 @@ pub const GAP_BYTES: usize = LENGTH_BYTES;
 const GAP_LENGTH: u32 = 0;
 
 // The versions of the strip.
-#[derive(Drop)]
+#[derive(Clone, Copy)]
 pub enum Version {
     One,
     Two,
@@ -63,7 +63,7 @@ pub enum Version {
 
 // What a strip's head holds: its version, how many adjacent speech frames make a reading, the samples of a channel,
 // and the settings.
-#[derive(Drop)]
+#[derive(Clone, Copy)]
 pub struct Head {
     pub version: Version,
     pub threshold: u32,
@@ -72,7 +72,7 @@ pub struct Head {
 }
 
 // A reply's number, and the head: version 1 and all 0 where it is refused.
-#[derive(Drop)]
+#[derive(Clone, Copy)]
 pub struct HeadRead {
     pub reply: u32,
     pub head: Head,
@@ -80,7 +80,7 @@ pub struct HeadRead {
 
 // What stands at a place of a strip: no record, at the strip's end and where reading is refused; the figures of
 // one; or a gap.
-#[derive(Drop)]
+#[derive(Clone, Copy)]
 pub enum Found {
     None,
     Record(Figures),
@@ -88,7 +88,7 @@ pub enum Found {
 }
 
 // A reply's number, and what was found.
-#[derive(Drop)]
+#[derive(Clone, Copy)]
 pub struct RecordRead {
     pub reply: u32,
     pub found: Found,

@@ -21,14 +21,14 @@ use units::replies::{DONE, ROOM, refusal};
 pub const LONGEST: usize = 96;
 
 // What a line is of: a frame, with what it was; or a gap.
-#[derive(Drop)]
+#[derive(Clone, Copy)]
 pub enum Kind {
     Frame(Answer),
     Gap,
 }
 
 // A reply's number, and how many bytes the line has: 0 where it is refused.
-#[derive(Drop)]
+#[derive(Clone, Copy)]
 pub struct Line {
     pub reply: u32,
     pub length: usize,

@@ -23,7 +23,7 @@ const OVER: u32 = 2;
 // The bytes of a head or a record that is not whole yet, how many they are, what the reader waits for, whether it takes
 // a strip of any version, and the version: the strip's, once its head is known; before it the only one that is taken, and
 // 1 where any is.
-#[derive(Drop)]
+#[derive(Clone, Copy)]
 pub struct Reader {
     pub held: [u8; HEAD_BYTES],
     pub count: usize,
@@ -34,7 +34,7 @@ pub struct Reader {
 
 // What comes out: nothing yet; the head; the figures of a record; a gap; the end, after the last whole record; or the
 // reply with which the head or the next record is refused.
-#[derive(Drop)]
+#[derive(Clone, Copy)]
 pub enum Got {
     More,
     Head(Head),
@@ -45,14 +45,14 @@ pub enum Got {
 }
 
 // What came out, and the reader that goes on.
-#[derive(Drop)]
+#[derive(Clone, Copy)]
 pub struct Step {
     pub reader: Reader,
     pub got: Got,
 }
 
 // The same of a block, and how many of its bytes were used.
-#[derive(Drop)]
+#[derive(Clone, Copy)]
 pub struct Next {
     pub reader: Reader,
     pub used: usize,

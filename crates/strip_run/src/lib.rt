@@ -25,7 +25,7 @@ const SAMPLES: usize = 480;
 
 // The chain, how many peaks its protector remembers, the number of what comes next, 0 for the head, whether the run goes on,
 // and the reply's number: of the refusal that ended the run, and 0 as long as nothing is refused.
-#[derive(Drop)]
+#[derive(Clone, Copy)]
 pub struct Desk {
     pub chain: Chain,
     pub capacity: u32,
@@ -35,14 +35,14 @@ pub struct Desk {
 }
 
 // How far a run is: the reader of the strip, and the desk.
-#[derive(Drop)]
+#[derive(Clone, Copy)]
 pub struct Run {
     pub reader: Reader,
     pub desk: Desk,
 }
 
 // The desk that goes on, and how many bytes its line has.
-#[derive(Drop)]
+#[derive(Clone, Copy)]
 struct Line {
     desk: Desk,
     length: usize,
@@ -50,7 +50,7 @@ struct Line {
 
 // A reply's number, the run that goes on, and how many bytes of lines were put: the run that came in and none, where
 // the buffer is refused.
-#[derive(Drop)]
+#[derive(Clone, Copy)]
 pub struct Taken {
     pub reply: u32,
     pub run: Run,
@@ -58,7 +58,7 @@ pub struct Taken {
 }
 
 // What whoever started the program is told at its end: nothing, or the reply's number of the run.
-#[derive(Drop)]
+#[derive(Clone, Copy)]
 pub enum Verdict {
     Nothing,
     Reply(u32),

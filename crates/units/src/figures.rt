@@ -10,7 +10,7 @@ use crate::kinds::{Db, Dbfs, LinearS16};
 // What was metered of a frame: the probability of speech, the rms level, the peak, the level of the noise,
 // and the limiter's envelope.
 #[repr(C)]
-#[derive(Drop)]
+#[derive(Clone, Copy)]
 pub struct Figures {
     pub probability: f32,
     pub rms: Dbfs,

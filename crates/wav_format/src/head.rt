@@ -33,7 +33,7 @@ const PLAIN: u32 = 1;
 const EXTENDED: u32 = 65534;
 
 // A chunk's name and how many bytes follow its head.
-#[derive(Drop)]
+#[derive(Clone, Copy)]
 pub struct Chunk {
     pub name: u32,
     pub size: u32,
@@ -41,7 +41,7 @@ pub struct Chunk {
 
 // A reply's number, the channels, the samples that a channel has in 10 ms, and the mask that says which speakers the
 // channels are for, 0 where the format says none: all 0 where it is refused.
-#[derive(Drop)]
+#[derive(Clone, Copy)]
 pub struct Format {
     pub reply: u32,
     pub channels: usize,

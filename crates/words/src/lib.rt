@@ -9,14 +9,14 @@ ghost use Rattle.io.specs.Digits.{hex_digit_ascii as Digits·glyph, last_digits}
 ghost use Rattle.words.specs.Hex.{digit_of, half_at, word_at, read_at, fits, put_at};
 
 // Whether a byte is a hexadecimal digit in lower case, and what it is worth: 0 where it is none.
-#[derive(Drop)]
+#[derive(Clone, Copy)]
 pub struct Digit {
     pub ok: bool,
     pub value: u32,
 }
 
 // Whether some bytes are all such digits, and the number that they make.
-#[derive(Drop)]
+#[derive(Clone, Copy)]
 pub struct Word {
     pub ok: bool,
     pub bits: u32,

@@ -7,8 +7,7 @@ use lib.Dec.{leb, eqb, lit<, lit≤}
 use borrow.Author.Rules.{rules}
 use Rattle.frames.specs.Facts.{sizes_facts}
 use Rattle.frames.specs.Shape.{is_samples, is_shape}
-use Rattle.frames.proofs.is_shape.Statement.{statement}
-use Rattle.frames.proofs.is_shape.Tie as tie
+use Rattle.frames.proofs.is_shape.Goals as goal
 
 -- a product that is taken only where it is looked at
 same-product : (small : Bool) (channels samples length : ℕ)
@@ -21,35 +20,21 @@ small_product : (small : Bool) (channels samples : ℕ) → (small ≡ true → 
 small_product true channels samples h = mul-le-mul (h refl).0 (h refl).1
 small_product false channels samples h = lit≤ tt
 
-is-samples-requires : tie.Need-is-samples-requires
-is-samples-requires c κs = search rules
-
-pick-usize-requires : tie.Need-pick-usize-requires
-pick-usize-requires c κs = search rules
-
-pick-usize-requires-2 : tie.Need-pick-usize-requires-2
-pick-usize-requires-2 c κs = search rules
-
-returns : tie.Need-returns
+pub returns : goal.returns
 unfolding is_shape
 returns c =
-    let at = c.before.before.before.args in
-    rw (c.before.pick-usize.ensures, c.pick-usize2.ensures, c.before.before.is-samples.ensures)
+    let at = c.args in
+    rw (c.pick_usize-c.ensures, c.pick_usize-s.ensures, c.is_samples.ensures)
     (same-product (leb 1 at.channels && leb at.channels 8 && is_samples at.samples) at.channels at.samples at.length)
 
-mul-result : tie.Need-overflow-mul-result
-mul-result c =
-    let at = c.before.before.before.args in
+pub overflow_mul-result : goal.overflow_mul-result
+overflow_mul-result c =
+    let at = c.args in
     record {
       fits =
           lt_of_le_of_lt {m = 3840}
-          (rw (c.before.pick-usize.ensures, c.pick-usize2.ensures, c.before.before.is-samples.ensures)
+          (rw (c.pick_usize-c.ensures, c.pick_usize-s.ensures, c.is_samples.ensures)
           (small_product (leb 1 at.channels && leb at.channels 8 && is_samples at.samples) at.channels at.samples
           (λ h. let known = sizes_facts at.channels at.samples h in (known.eight, known.each.most))))
           (lit< tt);
     }
-
-pub is-shape-spec : {M : Type 1} → statement M
-is-shape-spec =
-    tie.close
-    (tie.spec is-samples-requires pick-usize-requires pick-usize-requires-2 mul-result returns)

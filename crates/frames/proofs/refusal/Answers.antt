@@ -10,17 +10,7 @@ use Rattle.units.specs.Replies.{refusal}
 use Rattle.frames.specs.Shape.{is_shape}
 use Rattle.frames.specs.Samples.{all_within}
 use Rattle.frames.specs.Refusal.{frame_refusal}
-use Rattle.frames.proofs.refusal.Statement.{statement}
-use Rattle.frames.proofs.refusal.Tie as tie
-
-is-shape-requires : tie.Need-is-shape-requires
-is-shape-requires c κs = search rules
-
-are-within-requires : tie.Need-are-within-requires
-are-within-requires c κs = search rules
-
-refusal-requires : tie.Need-refusal-requires
-refusal-requires c κs = search rules
+use Rattle.frames.proofs.refusal.Goals as goal
 
 -- the definition, with what the calls gave
 first : (frame : List Float) (channels samples : ℕ) (set setting figure : Bool) (bound : Float) (shape within : Bool) (reply : ℕ)
@@ -29,11 +19,8 @@ first : (frame : List Float) (channels samples : ℕ) (set setting figure : Bool
 unfolding frame_refusal
 first frame channels samples set setting figure bound shape within reply s w r = rw (r, s, w)
 
-returns : tie.Need-returns
+pub returns : goal.returns
 returns c =
-    let a = c.before.before.before.before.args in
-    first a.frame.now a.channels a.samples a.set a.setting a.figure a.bound _ _ _ c.before.before.is-shape.ensures c.before.are-within.ensures
+    let a = c.args in
+    first a.frame.now a.channels a.samples a.set a.setting a.figure a.bound _ _ _ c.is_shape.ensures c.are_within.ensures
     c.refusal.ensures
-
-pub refusal-spec : {M : Type 1} → statement M
-refusal-spec = tie.close (tie.spec is-shape-requires are-within-requires refusal-requires returns)

@@ -1,0 +1,20 @@
+-- `frames::squares::are_within` meets its contract. The invariant: what was found so far, and the test of what is left, is the test of the whole. Assumes nothing.
+use mathlib.Core.Bool.{Bool, ◌&&◌, and_assoc}
+use mathlib.Core.List.{List}
+use mathlib.Core.Path.{◌≡◌, sym, ap, ◌∙◌}
+use Prim.Native.Nat.{ℕ, ◌+◌, ◌-◌, ◌≤◌}
+use native.Mathlib.Nat.{le_of_eq}
+use lib.Ieee.{Float}
+use lib.ListN.{length, take, drop, take-append-drop, length-drop}
+use lib.Seq.{drop-drop, take_all}
+use Rattle.frames.specs.Samples.{all_within}
+use Rattle.frames.specs.Facts.{within_append}
+use borrow.Author.Rules.{rules}
+use native.Mathlib.Omega.{arith}
+use Rattle.frames.proofs.squares.are_within.Given as goal
+
+abbrev pub invariant-loop-at : goal.invariant-loop-at
+invariant-loop-at l = (l.at ≤ length l.frame) × (l.ok && all_within l.bound (drop l.at l.frame) ≡ all_within l.bound l.frame)
+
+abbrev pub decreases-loop-at : goal.decreases-loop-at
+decreases-loop-at l = length l.frame - l.at

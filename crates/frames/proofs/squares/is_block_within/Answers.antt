@@ -1,0 +1,34 @@
+-- `frames::squares::is_block_within` meets its contract. The invariant: what was found so far, and the test of what is left, is the test of the whole. Assumes nothing.
+use mathlib.Core.Bool.{◌&&◌, and_assoc, and-true}
+use mathlib.Core.List.{List}
+use mathlib.Core.Path.{◌≡◌, sym, ◌∙◌}
+use Prim.Native.Nat.{◌≤◌, ◌-◌}
+use native.Mathlib.Omega.{arith}
+use lib.Ieee.{Float, nan}
+use lib.ListN.{length, drop}
+use borrow.Author.Rules.{rules}
+use Rattle.frames.specs.Samples.{all_within}
+use Rattle.lists.specs.Loops.{scan, scan_done}
+use Rattle.frames.proofs.squares.is_block_within.Goals as goal
+
+pub loop-i-preserved : goal.loop-i-preserved
+unfolding all_within
+loop-i-preserved c =
+    let bound = c.args.bound in
+    let block = c.args.block.now in
+    let loop = c.loop-i in
+    let ok = loop.ok in
+    let r = c.is_square_within-ok.result in (
+      omega arith,
+      scan (λ (ys : List Float). ok && all_within bound ys) (λ (ys : List Float). ok && r && all_within bound ys) block loop.i nan (omega arith)
+          (rw c.is_square_within-ok.ensures (sym (and_assoc ok _ _)))
+          ∙ loop.invariant.1,
+    )
+
+pub returns : goal.returns
+unfolding all_within
+returns c =
+    let bound = c.args.bound in
+    let block = c.args.block.now in
+    let loop = c.loop-i in
+    sym (and-true loop.ok) ∙ sym (scan_done (λ (ys : List Float). loop.ok && all_within bound ys) block loop.i (omega arith)) ∙ loop.invariant.1

@@ -1,0 +1,8 @@
+-- `saturation_protector_buffer::Ring::capacity` meets its contract. Assumes nothing.
+use borrow.Author.Rules.{rules}
+use Rattle.saturation_protector_buffer.specs.Calls.{held}
+use Rattle.saturation_protector_buffer.proofs.Ring.capacity.Goals as goal
+
+pub returns : goal.returns
+unfolding held
+returns c = rw (c.pick_u32.ensures, c.refusal.ensures, c.passes-ok.ensures)

@@ -1,0 +1,8 @@
+-- `saturation_protector_buffer::Ring::size` meets its contract. Assumes nothing.
+use borrow.Author.Rules.{rules}
+use Rattle.saturation_protector_buffer.specs.Calls.{sized}
+use Rattle.saturation_protector_buffer.proofs.Ring.size.Goals as goal
+
+pub returns : goal.returns
+unfolding sized
+returns c = rw (c.pick_usize.ensures, c.refusal.ensures, c.passes-ok.ensures)

@@ -1,0 +1,8 @@
+-- `saturation_protector_buffer::Ring::store` meets its contract. Assumes nothing.
+use borrow.Author.Rules.{rules}
+use Rattle.saturation_protector_buffer.specs.Ring.{push}
+use Rattle.saturation_protector_buffer.proofs.Ring.store.Goals as goal
+
+pub returns : goal.returns
+unfolding push
+returns c = rw (c.pick_u32-more.ensures, c.pick_u32-next.ensures)
