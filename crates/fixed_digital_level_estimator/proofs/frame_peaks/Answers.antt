@@ -25,7 +25,6 @@ use Rattle.fixed_digital_level_estimator.specs.Laws.Columns.{peaks_down, over_do
 use Rattle.fixed_digital_level_estimator.specs.Laws.Tested.{Tested, tested_start, tested_next, test_real, tested}
 use Rattle.fixed_digital_level_estimator.specs.declared.Lanes.{Lanes}
 use Rattle.fixed_digital_level_estimator.proofs.frame_peaks.Goals as goal
-use Rattle.fixed_digital_level_estimator.proofs.frame_peaks.Goals.{In-loop-k}
 
 -- while a sub-frame is left, there is room for it
 room : (at k part samples : ℕ) → k < 20 → at ≡ k * part → samples ≡ 20 * part → at + part ≤ samples
@@ -79,18 +78,11 @@ loop-k-init c =
       tested_start args.frame.now args.channels args.samples args.part 20 start.requires.1 start.requires.0,
     )
 
--- in a turn
-fits_in : (c : In-loop-k) → c.loop-k.at + c.args.part ≤ c.args.samples
-fits_in c =
-    let start = c in
-    let loop = c.loop-k in
-    room loop.at loop.k start.args.part start.args.samples (omega arith) loop.invariant.2 start.requires.1
-
 pub raise_by_column-next-requires : goal.raise_by_column-next-requires
-raise_by_column-next-requires c = (c.requires.0, fits_in c)
+raise_by_column-next-requires c = (c.requires.0, room c.loop-k.at c.loop-k.k c.args.part c.args.samples (omega arith) c.loop-k.invariant.2 c.requires.1)
 
 pub overflow_add-at : goal.overflow_add-at
-overflow_add-at c = omega (arith, fits_in c.before.before.before)
+overflow_add-at c = omega (arith, room c.loop-k.at c.loop-k.k c.args.part c.args.samples (omega arith) c.loop-k.invariant.2 c.requires.1)
 
 pub loop-k-preserved : goal.loop-k-preserved
 loop-k-preserved c =

@@ -13,7 +13,6 @@ use Rattle.fixed_digital_level_estimator.specs.Lanes.{Raised, column}
 use Rattle.fixed_digital_level_estimator.specs.Laws.Lanes.{raised_none, raised_more}
 use Rattle.fixed_digital_level_estimator.specs.declared.Lanes.{Lanes}
 use Rattle.fixed_digital_level_estimator.proofs.raise_by_column.Goals as goal
-use Rattle.fixed_digital_level_estimator.proofs.raise_by_column.Goals.{In-loop-left}
 
 -- while a channel is left, there is room for its sub-frame
 record Room (from samples at part size : ℕ) : Type 0 where
@@ -56,27 +55,33 @@ no-channel (suc left) samples part frame l h = absurd (omega arith)
 pub loop-left-init : goal.loop-left-init
 loop-left-init c = (omega arith, omega arith, λ (r : Lanes) (h : _). h)
 
--- in a turn
-fits_in : (c : In-loop-left)
-    → Room c.loop-left.from c.args.samples c.args.at c.args.part
-    (length c.args.frame.now)
-fits_in c =
-    let start = c in
-    let loop = c.loop-left in
-    room loop.from loop.left start.args.channels start.args.samples start.args.at start.args.part (length start.args.frame.now) (omega arith) loop.invariant.0
-    start.requires.0 loop.invariant.1 start.requires.1
-
 pub overflow_add-to : goal.overflow_add-to
-overflow_add-to c = let r = fits_in c in omega (arith, r.inside)
+overflow_add-to c =
+    let r =
+        room c.loop-left.from c.loop-left.left c.args.channels c.args.samples c.args.at c.args.part (length c.args.frame.now)
+        (omega arith) c.loop-left.invariant.0 c.requires.0 c.loop-left.invariant.1 c.requires.1 in
+    omega (arith, r.inside)
 
 pub offset_bounds-frame-from : goal.offset_bounds-frame-from
-offset_bounds-frame-from c = let r = fits_in c in omega (arith, r.inside)
+offset_bounds-frame-from c =
+    let r =
+        room c.loop-left.from c.loop-left.left c.args.channels c.args.samples c.args.at c.args.part (length c.args.frame.now)
+        (omega arith) c.loop-left.invariant.0 c.requires.0 c.loop-left.invariant.1 c.requires.1 in
+    omega (arith, r.inside)
 
 pub slice_bounds-raise_by_part-end : goal.slice_bounds-raise_by_part-end
-slice_bounds-raise_by_part-end c = (fits_in c).inside
+slice_bounds-raise_by_part-end c =
+    let r =
+        room c.loop-left.from c.loop-left.left c.args.channels c.args.samples c.args.at c.args.part (length c.args.frame.now)
+        (omega arith) c.loop-left.invariant.0 c.requires.0 c.loop-left.invariant.1 c.requires.1 in
+    r.inside
 
 pub overflow_add-from : goal.overflow_add-from
-overflow_add-from c = let r = fits_in c.before.before in omega (arith, r.whole, r.first)
+overflow_add-from c =
+    let r =
+        room c.loop-left.from c.loop-left.left c.args.channels c.args.samples c.args.at c.args.part (length c.args.frame.now)
+        (omega arith) c.loop-left.invariant.0 c.requires.0 c.loop-left.invariant.1 c.requires.1 in
+    omega (arith, r.whole, r.first)
 
 pub loop-left-preserved : goal.loop-left-preserved
 loop-left-preserved c =
