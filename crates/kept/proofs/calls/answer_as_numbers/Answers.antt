@@ -8,12 +8,12 @@ use Rattle.kept.proofs.calls.answer_as_numbers.Goals as goal
 
 pub returns-in-NonSpeech : goal.returns-in-NonSpeech
 unfolding said kept_answer
-returns-in-NonSpeech c = ap (λ (a : Answer). kept_answer (said a)) (sym c.enum_told-1.given.1)
+returns-in-NonSpeech c = ap (λ (a : Answer). kept_answer (said a)) (sym c.in-NonSpeech.is)
 
 pub returns-in-Waiting : goal.returns-in-Waiting
 unfolding said kept_answer
-returns-in-Waiting c = ap (λ (a : Answer). kept_answer (said a)) (sym c.answer-1.given.1)
+returns-in-Waiting c = ap (λ (a : Answer). kept_answer (said a)) (sym c.in-Waiting.is)
 
 pub returns-in-Publishing : goal.returns-in-Publishing
 unfolding said kept_answer
-returns-in-Publishing c = ap (λ (a : Answer). kept_answer (said a)) (sym c.answer-in-Publishing-1.given.1)
+returns-in-Publishing c = ap (λ (a : Answer). kept_answer (said a)) (sym c.in-Publishing.is)

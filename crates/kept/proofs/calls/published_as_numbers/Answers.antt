@@ -5,4 +5,4 @@ use Rattle.kept.proofs.calls.published_as_numbers.Goals as goal
 
 pub returns : goal.returns
 unfolding kept_published
-returns c = rw c.number_of_lem.ensures
+returns c = rw c.number_of.ensures

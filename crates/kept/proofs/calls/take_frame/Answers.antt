@@ -12,8 +12,8 @@ returns-then-next-eq-DONE c =
     let p = c in
     let t = p in
     let a = t.args in
-    let j = chain_joined a.kept a.figures a.frame.now a.channels a.samples p.step-next.result (sym t.is_sound.ensures ∙ t.if-is_sound.true) p.chain-chain.ensures p.step-next.ensures.result_value p.step-next.ensures.frame_after.0 c.if-next-eq-DONE.true c.answer_as_numbers.ensures c.of.ensures in
-    (j.0, (j.1, λ (h : _). p.step-next.ensures.frame_after.1 c.if-next-eq-DONE.true))
+    let j = chain_joined a.kept a.figures a.frame.now a.channels a.samples p.step-next.result (sym t.is_sound.ensures ∙ t.if-is_sound.true) p.chain-chain.ensures p.step-next.ensures.result_value p.step-next.ensures.frame_after c.if-next-eq-DONE.true c.answer_as_numbers.ensures c.of.ensures in
+    record { value = j.0; frame_after = j.1; scale = λ (h : _). p.step-next.ensures.scale c.if-next-eq-DONE.true }
 
 pub returns-else-next-eq-DONE : goal.returns-else-next-eq-DONE
 unfolding said
@@ -21,8 +21,8 @@ returns-else-next-eq-DONE c =
     let p = c in
     let t = p in
     let a = t.args in
-    let j = chain_let_be a.kept a.figures a.frame.now a.channels a.samples p.step-next.result (sym t.is_sound.ensures ∙ t.if-is_sound.true) p.chain-chain.ensures p.step-next.ensures.result_value p.step-next.ensures.frame_after.0 c.if-next-eq-DONE.false c.answer_as_numbers-else-next-eq-DONE.ensures in
-    (j.0, (j.1, p.step-next.ensures.frame_after.1))
+    let j = chain_let_be a.kept a.figures a.frame.now a.channels a.samples p.step-next.result (sym t.is_sound.ensures ∙ t.if-is_sound.true) p.chain-chain.ensures p.step-next.ensures.result_value p.step-next.ensures.frame_after c.if-next-eq-DONE.false c.answer_as_numbers-else-next-eq-DONE.ensures in
+    record { value = j.0; frame_after = j.1; scale = p.step-next.ensures.scale }
 
 pub returns-else-is_sound : goal.returns-else-is_sound
 unfolding said chain_of limiter_of envelope_of
@@ -30,4 +30,4 @@ returns-else-is_sound c =
     let t = c in
     let a = t.args in
     let j = chain_turned_away a.kept a.figures a.frame.now a.channels a.samples (sym t.is_sound.ensures ∙ t.if-is_sound.false) c.answer_as_numbers-else-is_sound.ensures c.refuse_state.ensures in
-    (j.0, (j.1, λ (h : c.refuse_state.result ≡ done). absurd (j.2 h)))
+    record { value = j.0; frame_after = j.1; scale = λ (h : c.refuse_state.result ≡ done). absurd (j.2 h) }

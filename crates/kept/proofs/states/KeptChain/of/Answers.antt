@@ -13,4 +13,4 @@ back c = search rules
 
 pub returns : goal.returns
 unfolding kept_chain
-returns c = rw (c.number_of_lem.ensures, c.number_of-clip.ensures, c.of-limiter.ensures, back c)
+returns c = rw (c.number_of-confident.ensures, c.number_of-clip.ensures, c.of-limiter.ensures, back c)

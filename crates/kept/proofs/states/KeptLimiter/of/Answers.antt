@@ -13,4 +13,4 @@ back c = search rules
 
 pub returns : goal.returns
 unfolding kept_limiter
-returns c = rw (c.of-estimator.ensures, c.number_of_lem.ensures, back c)
+returns c = rw (c.of-estimator.ensures, c.number_of-available.ensures, back c)
