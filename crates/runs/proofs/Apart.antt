@@ -9,7 +9,7 @@ use Rattle.std.proofs.lemmas.Bool.{lt-leb}
 use Rattle.runs.specs.Runs.{publishes, Run, longer, advanced, closed, framed, published}
 use Rattle.runs.specs.Histories.{Settled}
 use Rattle.runs.specs.Laws.Counts.{longer_below}
-use Rattle.runs.specs.Laws.Short.{thrown, idle, framed_settled}
+use Rattle.runs.proofs.Short.{thrown, idle, framed_settled}
 
 module _ {S : Type 0} (t : ℕ) where
   -- both have the same reliable state, and no run that has reached the threshold

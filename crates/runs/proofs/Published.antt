@@ -12,7 +12,7 @@ use borrow.Author.Tests.{leb-true, leb-false, ltb-true, ltb-false, le-leb, lt-le
 use Rattle.runs.specs.Runs.{Run, longer, publishes, advanced, closed, framed, published}
 use Rattle.runs.specs.Histories.{Frame, advanced_by, reached, counting, counted, Shown, showing, shown_after}
 use Rattle.runs.specs.Laws.Counts.{held, held_longer, held_publishes, held_below, held_at}
-use Rattle.runs.specs.Laws.Short.{kept, thrown, idle, neither}
+use Rattle.runs.proofs.Short.{kept, thrown, idle, neither}
 
 -- A state that frames advance one after the other.
 pub advanced_append : {S : Type 0} (s : S) (fs gs : List (Frame S)) → advanced_by s (fs ++ gs) ≡ advanced_by (advanced_by s fs) gs

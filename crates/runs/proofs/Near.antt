@@ -8,7 +8,7 @@ use Rattle.std.proofs.Math.Bool.{true, false}
 use Rattle.std.proofs.lemmas.Bool.{false≢true}
 use Rattle.runs.specs.Runs.{Run, closed, framed, published}
 use Rattle.runs.specs.Histories.{Frame, Settled, Shown, showing}
-use Rattle.runs.specs.Laws.Apart.{Apart, apart_itself, apart_closed, apart_stays, nothing_published_lem}
+use Rattle.runs.proofs.Apart.{Apart, apart_itself, apart_closed, apart_stays, nothing_published_lem}
 
 module _ {S B : Type 0} (g : S → B) (t : ℕ) where
   -- the runs are apart, and the same was published last

@@ -8,7 +8,7 @@ use Rattle.units.specs.Figures.{probability, level}
 use Rattle.runs.specs.Runs.{speech, framed, Run}
 use Rattle.runs.specs.Histories.{after, advanced_by, AllSpeech}
 use Rattle.runs.specs.Laws.Counts.{held, held_below, held_at}
-use Rattle.runs.specs.Laws.Short.{after_speech}
+use Rattle.runs.proofs.Short.{after_speech}
 use Rattle.saturation_protector.specs.Peaks as Peaks
 use Rattle.saturation_protector.specs.Protector.{run, passes, analyzed}
 use Rattle.saturation_protector.specs.Calls.{figures, stepped}
