@@ -7,8 +7,7 @@ use native.Mathlib.Omega.{arith}
 use lib.Dec.{eqb, lit<, lit≤}
 use Rattle.frames.specs.Facts.{sizes_facts}
 use Rattle.loudness.specs.Sound.{is_sizes, is_frame}
-use Rattle.loudness.proofs.is_frame.Statement.{statement}
-use Rattle.loudness.proofs.is_frame.Tie as tie
+use Rattle.loudness.proofs.is_frame.Goals as goal
 
 -- a product that is taken only where it is looked at
 same-product : (sizes : Bool) (channels samples length : ℕ)
@@ -25,52 +24,32 @@ small-samples : (sizes : Bool) (samples : ℕ) → (sizes ≡ true → samples �
 small-samples true samples h = h refl
 small-samples false samples h = lit≤ tt
 
-is-sizes-requires : tie.Need-is-sizes-requires
-is-sizes-requires c κs = tt
-
-pick-usize-requires : tie.Need-pick-usize-requires
-pick-usize-requires c κs = tt
-
-pick-usize-requires-2 : tie.Need-pick-usize-requires-2
-pick-usize-requires-2 c κs = tt
-
-mul-result : tie.Need-overflow-mul-result
-mul-result c =
-    let at = c.before.before.before.args in
+pub overflow_mul-result : goal.overflow_mul-result
+overflow_mul-result c =
+    let at = c.args in
     record {
       fits =
           lt_of_le_of_lt {m = 16}
-          (rw (c.before.pick-usize.ensures, c.before.before.is-sizes.ensures)
+          (rw (c.pick_usize-c.ensures, c.is_sizes-sizes.ensures)
           (small-channels (is_sizes at.channels at.samples) at.channels (λ h. (sizes_facts at.channels at.samples h).eight)))
           (lit< tt);
     }
 
-mul-result-2 : tie.Need-overflow-mul-result-2
-mul-result-2 c =
-    let at = c.before.before.before.args in
+pub overflow_mul-result-2 : goal.overflow_mul-result-2
+overflow_mul-result-2 c =
+    let at = c.args in
     record {
       fits =
           lt_of_le_of_lt {m = 7680}
-          (rw (c.before.pick-usize.ensures, c.pick-usize2.ensures, c.before.before.is-sizes.ensures)
+          (rw (c.pick_usize-c.ensures, c.pick_usize-s.ensures, c.is_sizes-sizes.ensures)
           (mul-le-mul (small-channels (is_sizes at.channels at.samples) at.channels (λ h. (sizes_facts at.channels at.samples h).eight))
           (small-samples (is_sizes at.channels at.samples) at.samples (λ h. (sizes_facts at.channels at.samples h).each.most))))
           (lit< tt);
     }
 
-returns : tie.Need-returns
+pub returns : goal.returns
 unfolding is_frame
 returns c =
-    let at = c.before.before.before.args in
-    rw (c.before.pick-usize.ensures, c.pick-usize2.ensures, c.before.before.is-sizes.ensures)
+    let at = c.args in
+    rw (c.pick_usize-c.ensures, c.pick_usize-s.ensures, c.is_sizes-sizes.ensures)
     (same-product (is_sizes at.channels at.samples) at.channels at.samples at.length)
-
-pub is-frame-spec : {M : Type 1} → statement M
-is-frame-spec =
-    tie.close
-    (tie.spec
-    is-sizes-requires
-    pick-usize-requires
-    pick-usize-requires-2
-    mul-result
-    mul-result-2
-    returns)
