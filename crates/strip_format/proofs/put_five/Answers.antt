@@ -3,7 +3,6 @@ use mathlib.Core.Path.{◌≡◌, refl, ◌∙◌}
 use mathlib.Core.List.{List, ◌++◌, append_assoc, append-nil}
 use Prim.Native.Nat.{ℕ, ◌+◌, ◌≤◌}
 use native.Mathlib.Omega.{arith}
-use borrow.Author.Rules.{rules}
 use lib.Ieee.{Float}
 use lib.ListN.{length, take, drop, length-append}
 use lib.Seq.{length-take-le}
@@ -11,38 +10,7 @@ use Rattle.bits.specs.Floats.{pattern_of}
 use Rattle.strip_format.specs.Fields.{big_endian, written}
 use Rattle.strip_format.specs.Steps.{five_bytes}
 use Rattle.strip_format.specs.Laws.Steps.{joins}
-use Rattle.strip_format.proofs.put_five.Statement.{statement}
-use Rattle.strip_format.proofs.put_five.Tie as tie
-
-put-float-requires : tie.Need-put-float-requires
-put-float-requires c κs = search rules
-
-add-put-float : tie.Need-overflow-add-put-float
-add-put-float c = search rules
-
-put-float-requires-2 : tie.Need-put-float-requires-2
-put-float-requires-2 c κs = search rules
-
-add-put-float-2 : tie.Need-overflow-add-put-float-2
-add-put-float-2 c = search rules
-
-put-float-requires-3 : tie.Need-put-float-requires-3
-put-float-requires-3 c κs = search rules
-
-add-put-float-3 : tie.Need-overflow-add-put-float-3
-add-put-float-3 c = search rules
-
-put-float-requires-4 : tie.Need-put-float-requires-4
-put-float-requires-4 c κs = search rules
-
-add-put-float-4 : tie.Need-overflow-add-put-float-4
-add-put-float-4 c = search rules
-
-put-float-requires-5 : tie.Need-put-float-requires-5
-put-float-requires-5 c κs = search rules
-
-same_length : tie.Need-same-length
-same_length c = search rules
+use Rattle.strip_format.proofs.put_five.Goals as goal
 
 long : (p : List ℕ) (n m x : ℕ) → length p ≡ n → n + 4 ≡ m → length (p ++ big_endian 4 x) ≡ m
 unfolding big_endian
@@ -75,29 +43,7 @@ five o at a b c d e h h1 h2 h3 h4 h5 =
     let g4 = more p3 o (at + 12) (at + 16) (pattern_of d) l3 (omega arith) g3 h4 in
     more p4 o (at + 16) (at + 20) (pattern_of e) l4 (omega arith) g4 h5 ∙ simp (append_assoc, append-nil)
 
-returns : tie.Need-returns
+pub returns : goal.returns
 returns c =
-    let at5 = c.before.before in
-    let at4 = at5.before.before.before.before in
-    let at3 = at4.before.before.before.before in
-    let at2 = at3.before.before.before.before in
-    let at1 = at2.before.before.before.before in
-    let start = at1.before.before.before in
-    five start.args.out.now start.args.at start.args.a start.args.b start.args.c start.args.d start.args.e start.requires
-    at1.put-float.ensures at2.put-float2.ensures at3.put-float3.ensures at4.put-float4.ensures at5.put-float5.ensures
-
-pub put-five-spec : {M : Type 1} → statement M
-put-five-spec =
-    tie.close
-    (tie.spec
-    put-float-requires
-    add-put-float
-    put-float-requires-2
-    add-put-float-2
-    put-float-requires-3
-    add-put-float-3
-    put-float-requires-4
-    add-put-float-4
-    put-float-requires-5
-    same_length
-    returns)
+    five c.args.out.now c.args.at c.args.a c.args.b c.args.c c.args.d c.args.e c.requires
+    c.put_float.ensures c.put_float-2.ensures c.put_float-3.ensures c.put_float-4.ensures c.put_float-5.ensures

@@ -6,26 +6,13 @@ use native.Mathlib.Omega.{arith}
 use lib.ListN.{length, set, take, drop, length-set}
 use lib.Seq.{sets-eq}
 use Rattle.strip_format.specs.Fields.{big_endian}
-use Rattle.strip_format.proofs.put_two.Statement.{statement}
-use Rattle.strip_format.proofs.put_two.Tie as tie
+use Rattle.strip_format.proofs.put_two.Goals as goal
 
-cast-out : tie.Need-overflow-cast-out
-cast-out c = omega arith
+pub bounds-out-at-2 : goal.bounds-out-at-2
+bounds-out-at-2 c = simp length-set (omega arith)
 
-slice-write-out : tie.Need-slice-write-out
-slice-write-out c = omega arith
-
-cast-out-2 : tie.Need-overflow-cast-out-2
-cast-out-2 c = omega arith
-
-add-out : tie.Need-overflow-add-out
-add-out c = omega arith
-
-slice-write-out-2 : tie.Need-slice-write-out-2
-slice-write-out-2 c = simp length-set (omega arith)
-
-same_length : tie.Need-same-length
-same_length c = simp length-set
+pub shape_of-out : goal.shape_of-out
+shape_of-out c = simp length-set
 
 -- two stores one after the other
 stored : (l : List ℕ) (at n : ℕ) → at + 2 ≤ length l
@@ -35,10 +22,5 @@ stored l at n h =
     let next : at + 1 ≡ suc at = omega arith in
     rw next (sets-eq (n / 256 % 256 ∷ n % 256 ∷ []) l at h)
 
-returns : tie.Need-returns
+pub returns : goal.returns
 returns c = stored c.args.out.now c.args.at c.args.n c.requires
-
-pub put-two-spec : {M : Type 1} → statement M
-put-two-spec =
-    tie.close
-    (tie.spec cast-out slice-write-out cast-out-2 add-out slice-write-out-2 same_length returns)

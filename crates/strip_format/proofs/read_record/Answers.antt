@@ -16,32 +16,17 @@ use Rattle.strip_format.specs.Steps.{record_place}
 use Rattle.strip_format.specs.Laws.Steps.{record_by_place, record_there}
 use Rattle.strip_format.specs.Laws.Refusals.{record_none, record_gap}
 use Rattle.strip_format.specs.declared.Version.{Version}
-use Rattle.strip_format.proofs.read_record.Statement.{statement}
-use Rattle.strip_format.proofs.read_record.Tie as tie
+use Rattle.strip_format.proofs.read_record.Goals as goal
 
-is-gap-at-requires : tie.Need-is-gap-at-requires
-is-gap-at-requires c κs = c.if1.true
+pub is_gap_at-requires : goal.is_gap_at-requires
+is_gap_at-requires c = c.if-at-strip.true
 
-found-gap-requires : tie.Need-found-gap-requires
-found-gap-requires c κs = tt
+pub record_place-place-requires : goal.record_place-place-requires
+record_place-place-requires c = c.if-at-strip.true
 
-record-place-requires : tie.Need-record-place-requires
-record-place-requires c κs = c.before.before.if1.true
-
-figures-at-requires : tie.Need-figures-at-requires
-figures-at-requires c κs =
-    let at_place = c.before in
-    let start = at_place.before.before.before.before.before in
-    (record_there start.args.strip.now start.args.at (sym at_place.record-place.ensures ∙ c.if3.true)).whole
-
-judged-record-requires : tie.Need-judged-record-requires
-judged-record-requires c κs = tt
-
-refused-record-requires : tie.Need-refused-record-requires
-refused-record-requires c κs = tt
-
-refused-record-requires-2 : tie.Need-refused-record-requires-2
-refused-record-requires-2 c κs = tt
+pub figures_at-requires : goal.figures_at-requires
+figures_at-requires c =
+    (record_there c.args.strip.now c.args.at (sym c.record_place-place.ensures ∙ c.if-place-eq-DONE.true)).whole
 
 module _ (v : Version) (strip : List ℕ) (at : ℕ) where
   -- whether a gap stands at the place
@@ -78,48 +63,23 @@ module _ (v : Version) (strip : List ℕ) (at : ℕ) where
   unfolding refused_record ended
   over l k = k ∙ ap told_of (sym (record_none v strip at l))
 
-returns : tie.Need-returns
-returns c =
-    let at_gap = c.before.before in
-    let start = at_gap.before.before.before in
-    a-gap start.args.version start.args.strip.now start.args.at at_gap.is-gap-at.result at_gap.is-gap-at.ensures c.before.if2.true
-    c.found-gap.ensures
+pub returns-then-is_gap_at : goal.returns-then-is_gap_at
+returns-then-is_gap_at c =
+    a-gap c.args.version c.args.strip.now c.args.at c.is_gap_at.result c.is_gap_at.ensures c.if-is_gap_at.true
+    c.found_gap.ensures
 
-returns-2 : tie.Need-returns-2
-returns-2 c =
-    let at_place = c.before.before.before in
-    let at_gap = at_place.before.before in
-    let start = at_gap.before.before.before in
-    whole start.args.version start.args.strip.now start.args.at at_gap.is-gap-at.result at_place.record-place.result c.before.figures-at.result
-    at_gap.before.if1.true at_gap.is-gap-at.ensures at_place.before.if2.false at_place.record-place.ensures c.before.before.if3.true
-    c.before.figures-at.ensures c.judged-record.ensures
+pub returns-then-place-eq-DONE : goal.returns-then-place-eq-DONE
+returns-then-place-eq-DONE c =
+    whole c.args.version c.args.strip.now c.args.at c.is_gap_at.result c.record_place-place.result c.figures_at.result
+    c.if-at-strip.true c.is_gap_at.ensures c.if-is_gap_at.false c.record_place-place.ensures c.if-place-eq-DONE.true
+    c.figures_at.ensures c.judged_record.ensures
 
-returns-3 : tie.Need-returns-3
-returns-3 c =
-    let at_place = c.before.before in
-    let at_gap = at_place.before.before in
-    let start = at_gap.before.before.before in
-    refused start.args.version start.args.strip.now start.args.at at_gap.is-gap-at.result at_place.record-place.result
-    at_gap.before.if1.true at_gap.is-gap-at.ensures at_place.before.if2.false at_place.record-place.ensures c.before.if3.false
-    c.refused-record.ensures
+pub returns-else-place-eq-DONE : goal.returns-else-place-eq-DONE
+returns-else-place-eq-DONE c =
+    refused c.args.version c.args.strip.now c.args.at c.is_gap_at.result c.record_place-place.result
+    c.if-at-strip.true c.is_gap_at.ensures c.if-is_gap_at.false c.record_place-place.ensures c.if-place-eq-DONE.false
+    c.refused_record.ensures
 
-returns-4 : tie.Need-returns-4
-returns-4 c =
-    let start = c.before.before.before in
-    over start.args.version start.args.strip.now start.args.at c.before.if1.false c.refused-record2.ensures
-
-pub read-record-spec : {M : Type 1} → statement M
-read-record-spec =
-    tie.close
-    (tie.spec
-    is-gap-at-requires
-    found-gap-requires
-    record-place-requires
-    figures-at-requires
-    judged-record-requires
-    refused-record-requires
-    refused-record-requires-2
-    returns
-    returns-2
-    returns-3
-    returns-4)
+pub returns-else-at-strip : goal.returns-else-at-strip
+returns-else-at-strip c =
+    over c.args.version c.args.strip.now c.args.at c.if-at-strip.false c.refused_record-else-at-strip.ensures

@@ -6,24 +6,13 @@ use Rattle.units.specs.Replies.{refusal}
 use Rattle.units.specs.Figures as Figure
 use Rattle.units.specs.declared.figures.Figures.{Figures}
 use Rattle.strip_format.specs.Calls.{record_refusal}
-use Rattle.strip_format.proofs.record_refusal.Statement.{statement}
-use Rattle.strip_format.proofs.record_refusal.Tie as tie
-
-accepted-requires : tie.Need-accepted-requires
-accepted-requires c κs = tt
-
-refusal-requires : tie.Need-refusal-requires
-refusal-requires c κs = tt
+use Rattle.strip_format.proofs.record_refusal.Goals as goal
 
 judged : (f : Figures) (accepted : Bool) (r : ℕ) → accepted ≡ Figure.accepted f → r ≡ refusal true true accepted true → r ≡ record_refusal f
 unfolding record_refusal
 judged f accepted r p k = rw (← p) k
 
-returns : tie.Need-returns
+pub returns : goal.returns
 returns c =
-    let at-accepted = c.before in
-    judged at-accepted.before.args.figures at-accepted.accepted.result c.refusal.result at-accepted.accepted.ensures
+    judged c.args.figures c.accepted.result c.refusal.result c.accepted.ensures
     c.refusal.ensures
-
-pub record-refusal-spec : {M : Type 1} → statement M
-record-refusal-spec = tie.close (tie.spec accepted-requires refusal-requires returns)
