@@ -2,7 +2,6 @@
 use mathlib.Core.Path.{◌≡◌}
 use mathlib.Core.List.{List}
 use Prim.Native.Nat.{ℕ}
-use borrow.Author.Rules.{rules}
 use borrow.Author.Tests.{eq-eqb, ne_eqb}
 use Rattle.units.specs.Replies.{cut}
 use Rattle.strip_format.specs.Calls.{entries_found, read_of}
@@ -11,38 +10,25 @@ use Rattle.strip_format.specs.declared.Found.TheVariants.{None, Record, Gap}
 use Rattle.strip_format.specs.declared.RecordRead.{RecordRead}
 use Rattle.strip_reader.specs.Reader.{handed, step_of, record_found, record_fed}
 use Rattle.strip_reader.specs.declared.Reader.{Reader}
-use Rattle.strip_reader.proofs.with_record.Statement.{statement}
-use Rattle.strip_reader.proofs.with_record.Tie as tie
+use Rattle.strip_reader.proofs.with_record.Goals as goal
 
-enum_told : tie.Need-enum-told
-enum_told c = search rules
-
-enum-known-found : tie.Need-enum-known-found
-enum-known-found c = search rules
-
-enum-told-2 : tie.Need-enum-told-2
-enum-told-2 c = search rules
-
-returns : tie.Need-returns
+pub returns-then-read-eq-CUT : goal.returns-then-read-eq-CUT
 unfolding step_of handed record_fed read_of
-returns c = rw (eq-eqb _ _ c.if1.true)
+returns-then-read-eq-CUT c = rw (eq-eqb _ _ c.if-read-eq-CUT.true)
 
 -- a record that is not cut, by what was found
 uncut : (q : Reader) (held : List ℕ) (count : ℕ) (r : RecordRead) (x : Found) → (r.reply ≡ cut → ⊥) → r.found ≡ x → record_found q held r.reply (entries_found x) ≡ record_fed q held count (read_of r)
 unfolding record_fed read_of
 uncut q held count r x n e = rw (ne_eqb _ _ n, e)
 
-returns-2 : tie.Need-returns-2
+pub returns-in-None : goal.returns-in-None
 unfolding step_of handed record_found
-returns-2 c = uncut _ _ _ _ None c.before.before.if1.false c.enum_told.given.1
+returns-in-None c = uncut _ _ _ _ None c.if-read-eq-CUT.false c.in-None.is
 
-returns-3 : tie.Need-returns-3
+pub returns-in-Record : goal.returns-in-Record
 unfolding step_of handed record_found
-returns-3 c = uncut _ _ _ _ (Record _) c.before.before.before.if1.false c.before.found.given.1
+returns-in-Record c = uncut _ _ _ _ (Record _) c.if-read-eq-CUT.false c.in-Record.is
 
-returns-4 : tie.Need-returns-4
+pub returns-in-Gap : goal.returns-in-Gap
 unfolding step_of handed record_found
-returns-4 c = uncut _ _ _ _ Gap c.before.before.if1.false c.enum-told2.given.1
-
-pub with-record-spec : {M : Type 1} → statement M
-with-record-spec = tie.close (tie.spec enum_told enum-known-found enum-told-2 returns returns-2 returns-3 returns-4)
+returns-in-Gap c = uncut _ _ _ _ Gap c.if-read-eq-CUT.false c.in-Gap.is
