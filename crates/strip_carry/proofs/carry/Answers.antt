@@ -1,5 +1,5 @@
 -- `strip_carry::carry` meets its contract: what is tallied of a whole strip is what is told of it. Assumes nothing.
-use Rattle.std.proofs.Common.{◌≡◌, ℕ, ◌^◌, ◌<◌, ◌≤◌, false, cond, eqb, List, ◌++◌, length, drop, sym, refl, ap, ◌∙◌, append-nil, arith, rules, ne_eqb}
+use Rattle.std.proofs.Common.{◌≡◌, ℕ, ◌^◌, ◌<◌, ◌≤◌, false, cond, eqb, List, ◌++◌, length, drop, sym, refl, ap, ◌∙◌, append-nil, arith, ne_eqb}
 use Rattle.units.specs.Replies.{done, no_room}
 use Rattle.units.specs.Output.{Put, put}
 use Rattle.strip_format.specs.Laws.Refusals.{put_fits, put_too_short}
@@ -16,8 +16,7 @@ use Rattle.strip_carry.specs.declared.Carried.{Carried}
 use Rattle.strip_carry.specs.declared.Run.{Run}
 use Rattle.strip_carry.specs.declared.Taken.{Taken}
 use Rattle.strip_carry.specs.declared.Tally.{Tally}
-use Rattle.strip_carry.proofs.carry.Statement.{statement}
-use Rattle.strip_carry.proofs.carry.Tie as tie
+use Rattle.strip_carry.proofs.carry.Goals as goal
 
 -- ---- what was seen of the whole strip
 whole : (v : Version) (strip : List ℕ) → length strip < 2 ^ 63
@@ -67,9 +66,9 @@ module _ (v : Version) (strip out : List ℕ) where
           let long = ap (λ (y : Taken). y.length) m ∙ ap length (s.put well) in
           (ap {B = Carried} (λ (i : ℕ). record { reply = 0; number = 0; length = i }) long ∙ told.0, o ∙ ap (λ (xs : List ℕ). xs ++ drop (length xs) out) (s.put well) ∙ told.1)
 
-      pub no_room : length out < t.length → (◌≡◌ {A = Carried} (record { reply = no_room; number = 0; length = 0 }) (carried v strip out)) × (out ≡ carried_out v strip out)
+      pub without_room : length out < t.length → (◌≡◌ {A = Carried} (record { reply = no_room; number = 0; length = 0 }) (carried v strip out)) × (out ≡ carried_out v strip out)
       unfolding carried_to
-      no_room l =
+      without_room l =
           let short : length out < length (carried_bytes v strip) = omega (arith, s.long well) in
           answered (ap (λ (i : ℕ). put i (carried_bytes v strip) out) well ∙ put_too_short (carried_bytes v strip) out short) (carried_number v strip well)
 
@@ -81,64 +80,34 @@ module _ (v : Version) (strip out : List ℕ) where
         let told = answered (put_refused (judged v strip).reply (carried_bytes v strip) out bad) refl in
         (rw (s.reply, s.at) (rw (ne_eqb (judged v strip).reply done bad) at told.0), told.1)
 
--- ---- the needs
-new-requires : tie.Need-new-requires
-new-requires c κs = search rules
+pub take_bytes-taken-requires : goal.take_bytes-taken-requires
+take_bytes-taken-requires c =
+    let a = c.args in
+    let known = seen a.from a.strip.now c.new-first.result c.judge_bytes.result c.finish-last.result (omega (arith, c.well_formed.1.0.1)) c.new-first.ensures
+    c.judge_bytes.ensures c.finish-last.ensures in
+    omega (arith, counted a.from a.strip.now a.out.now known c.if-refused-eq-DONE.true, c.if-length-space.true)
 
-judge-bytes-requires : tie.Need-judge-bytes-requires
-judge-bytes-requires c κs = search rules
+pub returns-then-length-space : goal.returns-then-length-space
+returns-then-length-space c =
+    let a = c.args in
+    let known = seen a.from a.strip.now c.new-first.result c.judge_bytes.result c.finish-last.result (omega (arith, c.well_formed.1.0.1)) c.new-first.ensures
+    c.judge_bytes.ensures c.finish-last.ensures in
+    let bytes = c.take_bytes-taken in
+    let both = written a.from a.strip.now a.out.now known c.if-refused-eq-DONE.true c.if-length-space.true bytes.ensures.value bytes.ensures.out_after in
+    record { value = both.0; out_after = both.1 }
 
-finish-requires : tie.Need-finish-requires
-finish-requires c κs = search rules
+pub returns-else-length-space : goal.returns-else-length-space
+returns-else-length-space c =
+    let a = c.args in
+    let known = seen a.from a.strip.now c.new-first.result c.judge_bytes.result c.finish-last.result (omega (arith, c.well_formed.1.0.1)) c.new-first.ensures
+    c.judge_bytes.ensures c.finish-last.ensures in
+    let both = without_room a.from a.strip.now a.out.now known c.if-refused-eq-DONE.true c.if-length-space.false in
+    record { value = both.0; out_after = both.1 }
 
--- what is known once the strip has ended
-at-finish : (f : tie.After-finish)
-    → let a = f.before.before.before.before.before.args in
-    let first = f.before.before.new.result in
-    Tallied a.from a.strip.now f.finish.result.tally (ran told first.reader first.tally a.strip.now).lines
-at-finish f =
-    let judge = f.before.judge-bytes in
-    let new = f.before.before.new in
-    let start = f.before.before.before.before.before in
-    seen start.args.from start.args.strip.now new.result judge.result f.finish.result (omega (arith, start.well-formed.1.0.1)) new.ensures judge.ensures f.finish.ensures
-
-take-bytes-requires : tie.Need-take-bytes-requires
-take-bytes-requires c κs =
-    let f = c.before.before.before.before in
-    let a = f.before.before.before.before.before.args in
-    omega (arith, counted a.from a.strip.now a.out.now (at-finish f) c.before.before.if1.true, c.before.if2.true)
-
-same_length : tie.Need-same-length
-same_length c = search rules
-
-returns : tie.Need-returns
-returns c =
-    let f = c.before.before.before.before.before.before.before in
-    let a = f.before.before.before.before.before.args in
-    let bytes = c.before.before.take-bytes in
-    written a.from a.strip.now a.out.now (at-finish f) c.before.before.before.before.before.if1.true c.before.before.before.before.if2.true bytes.ensures.0 bytes.ensures.1
-
-returns-2 : tie.Need-returns-2
-returns-2 c =
-    let f = c.before.before.before in
-    let a = f.before.before.before.before.before.args in
-    no_room a.from a.strip.now a.out.now (at-finish f) c.before.if1.true c.if2.false
-
-returns-3 : tie.Need-returns-3
-returns-3 c =
-    let f = c.before.before in
-    let a = f.before.before.before.before.before.args in
-    refused a.from a.strip.now a.out.now (at-finish f) c.if1.false
-
-pub carry-spec : {M : Type 1} → statement M
-carry-spec =
-    tie.close
-    (tie.spec
-    new-requires
-    judge-bytes-requires
-    finish-requires
-    take-bytes-requires
-    same_length
-    returns
-    returns-2
-    returns-3)
+pub returns-else-refused-eq-DONE : goal.returns-else-refused-eq-DONE
+returns-else-refused-eq-DONE c =
+    let a = c.args in
+    let known = seen a.from a.strip.now c.new-first.result c.judge_bytes.result c.finish-last.result (omega (arith, c.well_formed.1.0.1)) c.new-first.ensures
+    c.judge_bytes.ensures c.finish-last.ensures in
+    let both = refused a.from a.strip.now a.out.now known c.if-refused-eq-DONE.false in
+    record { value = both.0; out_after = both.1 }

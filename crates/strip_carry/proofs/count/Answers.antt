@@ -1,18 +1,11 @@
 -- `strip_carry::count` meets its contract. Assumes nothing.
-use Rattle.std.proofs.Common.{◌≡◌, ℕ, true, rules, eq-eqb, ne_eqb}
+use Rattle.std.proofs.Common.{◌≡◌, ℕ, true, eq-eqb, ne_eqb}
 use Rattle.units.specs.Replies.{done, unsaid}
 use Rattle.strip_carry.specs.Run.{after, said, not_said}
 use Rattle.strip_carry.specs.declared.Line.{Line}
 use Rattle.strip_carry.specs.declared.Tally.{Tally}
 use Rattle.strip_carry.proofs.Lines.{counted}
-use Rattle.strip_carry.proofs.count.Statement.{statement}
-use Rattle.strip_carry.proofs.count.Tie as tie
-
-wrapping-add-u64-requires : tie.Need-wrapping-add-u64-requires
-wrapping-add-u64-requires c κs = search rules
-
-wrapping-add-u64-requires-2 : tie.Need-wrapping-add-u64-requires-2
-wrapping-add-u64-requires-2 c κs = search rules
+use Rattle.strip_carry.proofs.count.Goals as goal
 
 module _ (t : Tally) (reply n next long : ℕ) (e : next ≡ after t.number 1) where
   well : long ≡ after t.length n → reply ≡ done
@@ -25,16 +18,12 @@ module _ (t : Tally) (reply n next long : ℕ) (e : next ≡ after t.number 1) w
   unfolding not_said
   unwell k = rw (ne_eqb reply done k, e)
 
-returns : tie.Need-returns
-returns c =
-    let a = c.before.before.before.args in
-    well a.tally a.reply a.n _ _ c.before.before.wrapping-add-u64.ensures c.wrapping-add-u642.ensures c.before.if1.true
+pub returns-then-reply-eq-DONE : goal.returns-then-reply-eq-DONE
+returns-then-reply-eq-DONE c =
+    let a = c.args in
+    well a.tally a.reply a.n _ _ c.wrapping_add_u64-number.ensures.value c.wrapping_add_u64.ensures.value c.if-reply-eq-DONE.true
 
-returns-2 : tie.Need-returns-2
-returns-2 c =
-    let a = c.before.before.args in
-    unwell a.tally a.reply a.n _ 0 c.before.wrapping-add-u64.ensures c.if1.false
-
-pub count_spec : {M : Type 1} → statement M
-count_spec =
-    tie.close (tie.spec wrapping-add-u64-requires wrapping-add-u64-requires-2 returns returns-2)
+pub returns-else-reply-eq-DONE : goal.returns-else-reply-eq-DONE
+returns-else-reply-eq-DONE c =
+    let a = c.args in
+    unwell a.tally a.reply a.n _ 0 c.wrapping_add_u64-number.ensures.value c.if-reply-eq-DONE.false

@@ -4,8 +4,7 @@ use Rattle.units.specs.Replies.{done}
 use Rattle.strip_carry.specs.Run.{told_of}
 use Rattle.strip_carry.specs.declared.Run.{Run}
 use Rattle.strip_carry.specs.declared.Told.TheVariants.{Nothing, Size, Refused}
-use Rattle.strip_carry.proofs.told_of.Statement.{statement}
-use Rattle.strip_carry.proofs.told_of.Tie as tie
+use Rattle.strip_carry.proofs.told_of.Goals as goal
 
 module _ (r : Run) (read : Bool) where
   size-told : read && not r.tally.more ≡ true → r.tally.reply ≡ done → Size r.tally.length ≡ told_of r read
@@ -20,20 +19,17 @@ module _ (r : Run) (read : Bool) where
   unfolding told_of
   nothing-told e = rw e
 
-returns : tie.Need-returns
-returns c =
-    let a = c.before.before.before.before.before.args in
-    size-told a.run a.read c.before.before.if1.true c.if2.true
+pub returns-then-tally-eq-DONE : goal.returns-then-tally-eq-DONE
+returns-then-tally-eq-DONE c =
+    let a = c.args in
+    size-told a.run a.read c.if-read-tally.true c.if-tally-eq-DONE.true
 
-returns-2 : tie.Need-returns-2
-returns-2 c =
-    let a = c.before.before.before.before.before.args in
-    refusal-told a.run a.read c.before.before.if1.true c.if2.false
+pub returns-else-tally-eq-DONE : goal.returns-else-tally-eq-DONE
+returns-else-tally-eq-DONE c =
+    let a = c.args in
+    refusal-told a.run a.read c.if-read-tally.true c.if-tally-eq-DONE.false
 
-returns-3 : tie.Need-returns-3
-returns-3 c =
-    let a = c.before.before.before.args in
-    nothing-told a.run a.read c.if1.false
-
-pub told-of-spec : {M : Type 1} → statement M
-told-of-spec = tie.close (tie.spec returns returns-2 returns-3)
+pub returns-else-read-tally : goal.returns-else-read-tally
+returns-else-read-tally c =
+    let a = c.args in
+    nothing-told a.run a.read c.if-read-tally.false

@@ -1,6 +1,6 @@
 -- `strip_carry::take_bytes` meets its contract. The invariant: what was put, and what the bytes from here on put out, is what the block puts out, and it
 -- has room. Assumes nothing.
-use Rattle.std.proofs.Common.{◌≡◌, ℕ, ◌+◌, ◌-◌, ◌<◌, ◌≤◌, List, [], ◌++◌, length, get_or, take, drop, sym, refl, ap, ◌∙◌, append_assoc, append-nil, arith, length-append, length-drop, take-append-drop, drop_of_length-le, length-take-le, take_all, drop-drop, take_at, drop_at, rules}
+use Rattle.std.proofs.Common.{◌≡◌, ℕ, ◌+◌, ◌-◌, ◌<◌, ◌≤◌, List, [], ◌++◌, length, get_or, take, drop, sym, refl, ap, ◌∙◌, append_assoc, append-nil, arith, length-append, length-drop, take-append-drop, drop_of_length-le, length-take-le, take_all, drop-drop, take_at, drop_at}
 use borrow.Rule.Slice.PartMut.{put_mid}
 use Rattle.strip_reader.specs.Reader.{Handed, step_of, handed, fed}
 use Rattle.strip_reader.specs.Telling.{Ran, ran}
@@ -11,27 +11,11 @@ use Rattle.strip_carry.specs.declared.Line.{Line}
 use Rattle.strip_carry.specs.declared.Taken.{Taken}
 use Rattle.strip_carry.specs.declared.Tally.{Tally}
 use Rattle.strip_carry.proofs.Bytes.{next_byte}
-use Rattle.strip_carry.proofs.take_bytes.Statement.{statement}
-use Rattle.strip_carry.proofs.take_bytes.Tie as tie
+use Rattle.strip_carry.proofs.take_bytes.Goals as goal
+use Rattle.strip_carry.proofs.take_bytes.Invariants.{Going}
 
--- how far a block is taken
-record Going (block out₀ : List ℕ) (r₀ : Reader) (t₀ : Tally) (out : List ℕ) (r : Reader) (t : Tally) (n i : ℕ) : Type 0 where
-  lines : take n out ++ (ran told r t (drop i block)).lines ≡ (ran told r₀ t₀ block).lines
-  reader : (ran told r t (drop i block)).reader ≡ (ran told r₀ t₀ block).reader
-  desk : (ran told r t (drop i block)).desk ≡ (ran told r₀ t₀ block).desk
-  rest : drop n out ≡ drop n out₀
-  same : length out ≡ length out₀
-  most : n ≤ length out
-  within : i ≤ length block
-
-abbrev invariant-loop : tie.invariant-loop
-invariant-loop run block out₀ reader₀ tally₀ length₀ i₀ out reader tally n i = Going block out₀ reader₀ tally₀ out reader tally n i
-
-abbrev decreases-loop : tie.decreases-loop
-decreases-loop run block out₀ reader₀ tally₀ length₀ i₀ out reader tally n i = length block - i
-
-loop-holds : tie.Need-loop-init invariant-loop decreases-loop
-loop-holds c = record { lines = refl; reader = refl; desk = refl; rest = refl; same = refl; most = omega arith; within = omega arith }
+pub loop-i-init : goal.loop-i-init
+loop-i-init c = record { lines = refl; reader = refl; desk = refl; rest = refl; same = refl; most = omega arith; within = omega arith }
 
 -- there is room for what one more byte puts out
 room : (block out₀ : List ℕ) (r₀ : Reader) (t₀ : Tally) (out : List ℕ) (r : Reader) (t : Tally) (n i : ℕ) (s : Step) → Going block out₀ r₀ t₀ out r t n i → i < length block
@@ -64,56 +48,39 @@ after_line out n line ys h l e =
     ap (λ (x : List ℕ). take n out ++ x) (ap (λ (x : List ℕ). ys ++ x) none ∙ append-nil ys ∙ e ∙ rw (part-whole out n h, drop-drop (length line) n out))
     ∙ sym (append_assoc (take n out) line (drop (n + length line) out))
 
-shared-slice-read-take : tie.Need-shared-slice-read-take invariant-loop decreases-loop
-shared-slice-read-take c = search rules
+pub slice_bounds-tell-count : goal.slice_bounds-tell-count
+slice_bounds-tell-count c = omega (arith, c.loop-i.invariant.most)
 
-take-requires : tie.Need-take-requires invariant-loop decreases-loop
-take-requires c κs = search rules
+pub slice_bounds-tell-start : goal.slice_bounds-tell-start
+slice_bounds-tell-start c = omega (arith, c.loop-i.invariant.most)
 
-sub-tell : tie.Need-overflow-sub-tell invariant-loop decreases-loop
-sub-tell c = omega (arith, c.before.before.before.loop.invariant.most)
-
-part-tell-start : tie.Need-slice-bounds-tell-start invariant-loop decreases-loop
-part-tell-start c = omega (arith, c.before.before.before.loop.invariant.most)
-
-part-tell-end : tie.Need-slice-bounds-tell-end invariant-loop decreases-loop
-part-tell-end c = search rules
-
-tell-requires : tie.Need-tell-requires invariant-loop decreases-loop
-tell-requires c κs =
-    let at-loop = c.before.before.before.before in
-    let l = at-loop.loop in
-    let start = at-loop.before.before.before.before.before in
-    let a = start.args in
-    let step = c.before.take in
+pub tell-line-requires : goal.tell-line-requires
+tell-line-requires c =
+    let l = c.loop-i in
+    let a = c.args in
+    let step = c.take-step in
     let space = room a.block.now a.out.now a.run.reader a.run.tally l.out l.reader l.tally l.length l.i step.result l.invariant
-    c.before.before.before.loop-test.true start.requires step.ensures in
+    c.loop-i-test.true c.requires step.ensures in
     rw (part-whole l.out l.length l.invariant.most, length-drop) (omega arith)
 
 -- how long a line is
 long : (t : Tally) (h : Handed) (line : Line) → line ≡ line_of (told t h) → line.length ≡ length (told t h).line
 long t h line e = ap (λ (x : Line). x.length) e
 
-add-length : tie.Need-overflow-add-length invariant-loop decreases-loop
-add-length c =
-    let at-loop = c.before.before.before.before.before.before.before.before.before.before in
-    let l = at-loop.loop in
-    let start = at-loop.before.before.before.before.before in
-    let a = start.args in
-    let tell = c.before.before.before.before.before.tell in
-    let step = c.before.before.before.before.before.before.before.take in
+pub overflow_add-length : goal.overflow_add-length
+overflow_add-length c =
+    let l = c.loop-i in
+    let a = c.args in
+    let tell = c.tell-line in
+    let step = c.take-step in
     let space = room a.block.now a.out.now a.run.reader a.run.tally l.out l.reader l.tally l.length l.i step.result l.invariant
-    c.before.before.before.before.before.before.before.before.before.loop-test.true start.requires step.ensures in
-    let few = long l.tally (handed step.result.got) tell.result tell.ensures.0 in
-    omega (arith, l.invariant.same, start.well-formed.1.1.0.0)
+    c.loop-i-test.true c.requires step.ensures in
+    let few = long l.tally (handed step.result.got) tell.result tell.ensures.value in
+    omega (arith, l.invariant.same, c.well_formed.1.1.0.0)
 
-add-i : tie.Need-overflow-add-i invariant-loop decreases-loop
-add-i c =
-    let at-loop = c.before.before.before.before.before.before.before.before.before.before in
-    omega (arith, c.before.before.before.before.before.before.before.before.before.loop-test.true, at-loop.before.before.before.before.before.well-formed.1.0.0)
-
-loop-less : tie.Need-loop-smaller invariant-loop decreases-loop
-loop-less c = omega arith
+pub overflow_add-i : goal.overflow_add-i
+overflow_add-i c =
+    omega (arith, c.loop-i-test.true, c.well_formed.1.0.0)
 
 -- one byte further
 further : (block out₀ : List ℕ) (r₀ : Reader) (t₀ : Tally) (out : List ℕ) (r : Reader) (t : Tally) (n i : ℕ) (s : Step) (line : Line) (ys : List ℕ) → Going block out₀ r₀ t₀ out r t n i
@@ -149,20 +116,18 @@ further block out₀ r₀ t₀ out r t n i s line ys g l pre h e f =
       within = omega arith;
     }
 
-loop-again : tie.Need-loop-preserved invariant-loop decreases-loop
-loop-again c =
-    let at-loop = c.before.before.before.before.before.before.before.before.before.before in
-    let l = at-loop.loop in
-    let start = at-loop.before.before.before.before.before in
-    let a = start.args in
-    let tell = c.before.before.before.before.before.tell in
-    let step = c.before.before.before.before.before.before.before.take in
-    let inside = c.before.before.before.before.before.before.before.before.before.loop-test.true in
-    further a.block.now a.out.now a.run.reader a.run.tally l.out l.reader l.tally l.length l.i step.result tell.result _ l.invariant inside start.requires step.ensures
-    tell.ensures.0 tell.ensures.1
+pub loop-i-preserved : goal.loop-i-preserved
+loop-i-preserved c =
+    let l = c.loop-i in
+    let a = c.args in
+    let tell = c.tell-line in
+    let step = c.take-step in
+    let inside = c.loop-i-test.true in
+    further a.block.now a.out.now a.run.reader a.run.tally l.out l.reader l.tally l.length l.i step.result tell.result _ l.invariant inside c.requires step.ensures
+    tell.ensures.value tell.ensures.out_after
 
-same_length : tie.Need-same-length invariant-loop decreases-loop
-same_length c = c.before.loop.invariant.same
+pub shape_of-out : goal.shape_of-out
+shape_of-out c = c.loop-i.invariant.same
 
 -- all bytes
 whole-block : (block out₀ : List ℕ) (r₀ : Reader) (t₀ : Tally) (out : List ℕ) (r : Reader) (t : Tally) (n i place : ℕ) → Going block out₀ r₀ t₀ out r t n i → length block ≤ i
@@ -180,28 +145,9 @@ whole-block block out₀ r₀ t₀ out r t n i place g l =
       sym (take-append-drop n out) ∙ ap (λ (xs : List ℕ). xs ++ drop n out) put ∙ ap (λ (xs : List ℕ). (ran told r₀ t₀ block).lines ++ xs) (g.rest ∙ ap (λ (m : ℕ). drop m out₀) size),
     )
 
-returns : tie.Need-returns invariant-loop decreases-loop
+pub returns : goal.returns
 returns c =
-    let l = c.before.loop in
-    let a = c.before.before.before.before.before.before.args in
-    whole-block a.block.now a.out.now a.run.reader a.run.tally l.out l.reader l.tally l.length l.i a.run.place l.invariant c.loop-test.false
-
-pub take-bytes-spec : {M : Type 1} → statement M
-take-bytes-spec =
-    tie.close
-    (tie.spec
-    invariant-loop
-    decreases-loop
-    loop-holds
-    shared-slice-read-take
-    take-requires
-    sub-tell
-    part-tell-start
-    part-tell-end
-    tell-requires
-    add-length
-    add-i
-    loop-less
-    loop-again
-    same_length
-    returns)
+    let l = c.loop-i in
+    let a = c.args in
+    let both = whole-block a.block.now a.out.now a.run.reader a.run.tally l.out l.reader l.tally l.length l.i a.run.place l.invariant c.loop-i-test.false in
+    record { value = both.0; out_after = both.1 }
