@@ -15,23 +15,7 @@ use Rattle.chain.specs.Calls.{gap}
 use Rattle.chain.specs.declared.Chain.{Chain}
 use Rattle.chain.specs.declared.Gapped.{Gapped}
 use Rattle.chain.specs.Laws.Gaps.{parts_interrupted}
-use Rattle.chain.proofs.Chain.gap.Statement.{statement}
-use Rattle.chain.proofs.Chain.gap.Tie as tie
-
-passes-requires : tie.Need-passes-requires
-passes-requires c κs = search rules
-
-refusal-requires : tie.Need-refusal-requires
-refusal-requires c κs = search rules
-
-gap-requires : tie.Need-gap-requires
-gap-requires c κs = search rules
-
-gap-requires-2 : tie.Need-gap-requires-2
-gap-requires-2 c κs = search rules
-
-gap-requires-3 : tie.Need-gap-requires-3
-gap-requires-3 c κs = search rules
+use Rattle.chain.proofs.Chain.gap.Goals as goal
 
 -- the answer, with what the calls gave
 handed : (c : Chain) (ok : Bool) (reply : ℕ) {e : Levels.Next} {s : Headrooms.Next} {g : Gaining.Next} → ok ≡ passes c → reply ≡ refusal true ok true true → ok ≡ true
@@ -42,26 +26,14 @@ handed : (c : Chain) (ok : Bool) (reply : ℕ) {e : Levels.Next} {s : Headrooms.
 unfolding gap
 handed c ok reply p r t h k l = rw (h, k, l, parts_interrupted c (sym p ∙ t), r, ← p, t)
 
-returns : tie.Need-returns
-returns c =
-    let three = c.before.before.before in
-    let one = three.before.before in
-    let chosen = one.before.before.before.before.before in
-    let tests = chosen.before in
-    handed _ _ _ tests.before.passes.ensures tests.refusal.ensures chosen.if1.true one.gap.ensures three.before.gap2.ensures three.gap3.ensures
+pub returns-then-ok : goal.returns-then-ok
+returns-then-ok c =
+    let three = c in
+    let one = three in
+    let chosen = one in
+    let tests = chosen in
+    handed _ _ _ tests.passes-ok.ensures tests.refusal-reply.ensures chosen.if-ok.true one.gap-first.ensures three.gap-second.ensures three.gap-third.ensures
 
-returns-2 : tie.Need-returns-2
+pub returns-else-ok : goal.returns-else-ok
 unfolding gap
-returns-2 c = rw (c.before.refusal.ensures, ← c.before.before.passes.ensures, c.if1.false)
-
-pub gap-spec : {M : Type 1} → statement M
-gap-spec =
-    tie.close
-    (tie.spec
-    passes-requires
-    refusal-requires
-    gap-requires
-    gap-requires-2
-    gap-requires-3
-    returns
-    returns-2)
+returns-else-ok c = rw (c.refusal-reply.ensures, ← c.passes-ok.ensures, c.if-ok.false)

@@ -9,23 +9,7 @@ use Rattle.chain.specs.Calls.{nothing_published, published_told}
 use Rattle.chain.specs.declared.Chain.{Chain}
 use Rattle.chain.specs.declared.Reading.{Reading}
 use borrow.Author.Rules.{rules}
-use Rattle.chain.proofs.Chain.published.Statement.{statement}
-use Rattle.chain.proofs.Chain.published.Tie as tie
-
-passes-requires : tie.Need-passes-requires
-passes-requires c κs = search rules
-
-refusal-requires : tie.Need-refusal-requires
-refusal-requires c κs = search rules
-
-pick-f32-requires : tie.Need-pick-f32-requires
-pick-f32-requires c κs = search rules
-
-pick-f32-requires-2 : tie.Need-pick-f32-requires-2
-pick-f32-requires-2 c κs = search rules
-
-pick-f32-requires-3 : tie.Need-pick-f32-requires-3
-pick-f32-requires-3 c κs = search rules
+use Rattle.chain.proofs.Chain.published.Goals as goal
 
 -- figure by figure, or all at once
 one_by_one : (c : Chain) (reply : ℕ) (b : Bool) → ◌≡◌ {A = Reading}
@@ -56,20 +40,9 @@ handed : (c : Chain) {ok : Bool} {reply : ℕ} {level headroom gain : Float} →
 unfolding published_told
 handed c p r l h g = rw (l, h, g, r, p) (one_by_one c _ (passes c))
 
-returns : tie.Need-returns
+pub returns : goal.returns
 returns c =
-    let picked = c.before.before.before in
-    let told = picked.before in
-    handed _ told.before.before.before.before.passes.ensures told.refusal.ensures picked.pick-f32.ensures c.before.before.pick-f322.ensures
-    c.before.pick-f323.ensures
-
-pub published-spec : {M : Type 1} → statement M
-published-spec =
-    tie.close
-    (tie.spec
-    passes-requires
-    refusal-requires
-    pick-f32-requires
-    pick-f32-requires-2
-    pick-f32-requires-3
-    returns)
+    let picked = c in
+    let told = picked in
+    handed _ told.passes-ok.ensures told.refusal.ensures picked.pick_f32.ensures c.pick_f32-2.ensures
+    c.pick_f32-3.ensures
