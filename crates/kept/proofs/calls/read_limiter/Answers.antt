@@ -9,17 +9,7 @@ use Rattle.limiter.specs.Limiter as Limiting
 use Rattle.limiter.specs.declared.Limiter.{Limiter}
 use Rattle.limiter.specs.declared.Heard.{Heard}
 use borrow.Author.Rules.{rules}
-use Rattle.kept.proofs.calls.read_limiter.Statement.{statement}
-use Rattle.kept.proofs.calls.read_limiter.Tie as tie
-
-is-sound-requires : tie.Need-is-sound-requires
-is-sound-requires c κs = search rules
-
-limiter-requires : tie.Need-limiter-requires
-limiter-requires c κs = search rules
-
-last-audio-level-requires : tie.Need-last-audio-level-requires
-last-audio-level-requires c κs = search rules
+use Rattle.kept.proofs.calls.read_limiter.Goals as goal
 
 -- the answer, with what the calls gave
 handed : (k : KeptLimiter) {l : Limiter} {told : Heard} → sound_limiter k ≡ true → l ≡ limiter_of k → told ≡ Limiting.heard l
@@ -27,12 +17,9 @@ handed : (k : KeptLimiter) {l : Limiter} {told : Heard} → sound_limiter k ≡ 
 unfolding limiter_read
 handed k s e t = rw (t, e, s)
 
-returns : tie.Need-returns
-returns c = handed _ (sym c.before.before.before.before.is-sound.ensures ∙ c.before.before.before.if1.true) c.before.before.limiter.ensures c.before.last-audio-level.ensures
+pub returns-then-is_sound : goal.returns-then-is_sound
+returns-then-is_sound c = handed _ (sym c.is_sound.ensures ∙ c.if-is_sound.true) c.limiter-limiter.ensures c.last_audio_level-heard.ensures
 
-returns-2 : tie.Need-returns-2
+pub returns-else-is_sound : goal.returns-else-is_sound
 unfolding limiter_read
-returns-2 c = let s = sym c.before.is-sound.ensures ∙ c.if1.false in rw s
-
-pub read-limiter-spec : {M : Type 1} → statement M
-read-limiter-spec = tie.close (tie.spec is-sound-requires limiter-requires last-audio-level-requires returns returns-2)
+returns-else-is_sound c = let s = sym c.is_sound.ensures ∙ c.if-is_sound.false in rw s

@@ -10,20 +10,7 @@ use Rattle.kept.specs.declared.calls.Reading.{Reading}
 use Rattle.kept.specs.declared.calls.Published.{Published}
 use Rattle.chain.specs.declared.Reading.{Reading as ChainReading}
 use borrow.Author.Rules.{rules}
-use Rattle.kept.proofs.calls.read_chain.Statement.{statement}
-use Rattle.kept.proofs.calls.read_chain.Tie as tie
-
-is-sound-requires : tie.Need-is-sound-requires
-is-sound-requires c κs = search rules
-
-chain-requires : tie.Need-chain-requires
-chain-requires c κs = search rules
-
-published-requires : tie.Need-published-requires
-published-requires c κs = search rules
-
-published-as-numbers-requires : tie.Need-published-as-numbers-requires
-published-as-numbers-requires c κs = search rules
+use Rattle.kept.proofs.calls.read_chain.Goals as goal
 
 -- the answer, with what the calls gave
 handed : (k : KeptChain) {c : Chain} {told : ChainReading} {p : Published} → sound_chain k ≡ true → c ≡ chain_of k → told ≡ Chaining.published_told c → p ≡ kept_published told.published
@@ -31,12 +18,9 @@ handed : (k : KeptChain) {c : Chain} {told : ChainReading} {p : Published} → s
 unfolding chain_read
 handed k s e t p = rw (p, t, e, s)
 
-returns : tie.Need-returns
-returns c = handed _ (sym c.before.before.before.before.before.is-sound.ensures ∙ c.before.before.before.before.if1.true) c.before.before.before.chain.ensures c.before.before.published.ensures c.published-as-numbers.ensures
+pub returns-then-is_sound : goal.returns-then-is_sound
+returns-then-is_sound c = handed _ (sym c.is_sound.ensures ∙ c.if-is_sound.true) c.chain-chain.ensures c.published-told.ensures c.published_as_numbers.ensures
 
-returns-2 : tie.Need-returns-2
+pub returns-else-is_sound : goal.returns-else-is_sound
 unfolding chain_read kept_published
-returns-2 c = let s = sym c.before.is-sound.ensures ∙ c.if1.false in rw s
-
-pub read-chain-spec : {M : Type 1} → statement M
-read-chain-spec = tie.close (tie.spec is-sound-requires chain-requires published-requires published-as-numbers-requires returns returns-2)
+returns-else-is_sound c = let s = sym c.is_sound.ensures ∙ c.if-is_sound.false in rw s
