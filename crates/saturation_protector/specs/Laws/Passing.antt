@@ -1,7 +1,7 @@
 -- A state that passes goes on passing: the headroom stays from 12 to 25, slots and largest peak from -150 to 50, and the time from 0 to 400 in tens. Laws.
 -- Assumes nothing.
 use Rattle.std.specs.Prelude.{◌≡◌, refl, Bool, true, false, cond, ℕ, ◌+◌, ◌%◌, ltb, Float}
-use Rattle.std.proofs.Common.{sym, ap, ◌∙◌, arith, ltb-false, le-leb, eq-eqb}
+use Rattle.std.proofs.Common.{arith, ltb-false, le-leb, eq-eqb}
 use Rattle.std.proofs.Math.Seq.{take-set-lt}
 use Rattle.std.specs.Float.Ieee.{binary32, sub}
 use Rattle.lists.specs.Tests.{◌and◌}
