@@ -51,7 +51,7 @@ cd "$room"
 . "$root/tools/proving.bash"
 trap 'echo "the caller ends with \$?" >&2' EXIT
 trap 'echo none' USR1
-prove_with_progress "$room/log" rt lib c
+prove_with_progress "$room/log" rt "lib --cpu x86-64" c
 echo "status \$?"
 trap -p
 END
@@ -94,7 +94,7 @@ the caller ends with 0" "$(cat "$room/err")"
 same "proving: the status is that of rt, and the caller's traps are as they were" "status 7
 trap -- 'echo \"the caller ends with \$?\" >&2' EXIT
 trap -- 'echo none' SIGUSR1" "$(cat "$room/out")"
-same "proving: rt has its words in the crate's folder, and nothing to read" "c lib|" "$(cat "$room/asked")|$(cat "$room/read")"
+same "proving: rt has its words in the crate's folder, and nothing to read" "c lib --cpu x86-64|" "$(cat "$room/asked")|$(cat "$room/read")"
 same "proving: the log has all that rt said" "12" "$(wc -l <"$room/log" | tr -d ' ')"
 same "proving: nothing is left of what rt has started, and of its temporary files" "0 of 2 processes, 0 files" "$(left)"
 

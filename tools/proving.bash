@@ -28,12 +28,12 @@ crates_behind() { # NAME..
         }' crates.txt
 }
 
-# Runs `rt VERB` in the folder of each crate NAME, one after the other, up to the first that fails. It has a session of its own,
-# nothing to read, and a folder of its own for what it writes in between; all that it says goes to LOG. `rt` proves the crates that
-# NAME uses as well, where they have changed since they were proved, and says nothing of one that has not. Each crate that is
-# done is told on standard error, the silent ones at the end: in one line that changes where that is a terminal, otherwise in a
-# line each. Returns the status of `rt`. A signal that ends this shell meanwhile (INT, TERM, HUP: the status is 130, 143, 129), and
-# any other end, ends the session first; the caller's own traps are put back, and that for EXIT is run.
+# Runs `rt VERB` in the folder of each crate NAME, one after the other, up to the first that fails; VERB may have flags in the same
+# word. It has a session of its own, nothing to read, and a folder of its own for what it writes in between; all that it says goes to
+# LOG. `rt` proves the crates that NAME uses as well, where they have changed since they were proved, and says nothing of one that
+# has not. Each crate that is done is told on standard error, the silent ones at the end: in one line that changes where that is a
+# terminal, otherwise in a line each. Returns the status of `rt`. A signal that ends this shell meanwhile (INT, TERM, HUP: the status
+# is 130, 143, 129), and any other end, ends the session first; the caller's own traps are put back, and that for EXIT is run.
 prove_with_progress() { # LOG rt VERB NAME..
     local log=$1 name line part='' of='' total count=0 status lines silence running=yes
     local -a behind
@@ -53,7 +53,7 @@ prove_with_progress() { # LOG rt VERB NAME..
     trap 'exit 143' TERM
     trap 'exit 129' HUP
     trap 'exit 131' QUIT
-    TMPDIR=$proving_room setsid bash -c 'for name in "${@:3}"; do (cd "crates/$name" && exec "$1" "$2") || exit; done' prover "$@" \
+    TMPDIR=$proving_room setsid bash -c 'for name in "${@:3}"; do (cd "crates/$name" && exec "$1" $2) || exit; done' prover "$@" \
         >"$log" 2>&1 </dev/null &
     while [ "$running" = yes ]; do
         read -r -t 0.2 -u "$silence" _ || :
