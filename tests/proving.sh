@@ -14,17 +14,22 @@ cat >"$room/bin/rt" <<END
 #!/usr/bin/env bash
 trap '' INT TERM HUP
 echo \$\$ >>"$room/processes"
-echo "\$*" >"$room/asked"
+echo "\$(basename "\$PWD") \$*" >"$room/asked"
 cat >"$room/read"
 mktemp -d >"$room/folder"
 echo "library lists: modules loaded=1 checked=0"
-echo "rt: a proved (unchanged since it was last proved)"
-echo "rt: a proved (unchanged since it was last proved)"
-echo "rt: other proved (1 s)"
+echo "crate a: modules loaded=1 checked=2"
+echo "logic=proved functions=3 sum=00"
+echo "crate a: modules loaded=3 checked=0"
+echo "logic=proved functions=3 sum=00"
+echo "crate other: modules loaded=1 checked=0"
+echo "logic=proved functions=3 sum=00"
 sleep 0.5
-printf 'rt: b pro'
+echo "crate b: modules loaded=1 checked=1"
+echo "axioms std: none reached of the 2 declared"
+printf 'logic=pro'
 sleep 0.5
-echo 'ved (0 s)' >&2
+echo 'ved functions=3' >&2
 if [ -e "$room/hangs" ]; then
     sh -c 'echo \$\$ >>"$room/processes"; while :; do sleep 1; done' &
     set -m
@@ -33,18 +38,20 @@ if [ -e "$room/hangs" ]; then
 fi
 sleep 1000 &
 echo \$! >>"$room/processes"
-echo 'rt: target/staticlib/libc.a has the functions of c that are marked #[no_mangle] pub extern "C"'
+echo "crate c: modules loaded=1 checked=1"
+echo "logic=proved functions=1"
 exit 7
 END
 chmod +x "$room/bin/rt"
-printf '# NAME: DEP DEP ..\na:\nb: a\nc: b io\nother: c # a program\n' >"$room/crates.txt"
+printf '# NAME: DEP DEP ..\na:\nb: a\nc staticlib: b io\nother: c # a program\n' >"$room/crates.txt"
+mkdir -p "$room/crates/"{a,b,c,other}
 cat >"$room/script" <<END
 set -u
 cd "$room"
 . "$root/tools/proving.bash"
 trap 'echo "the caller ends with \$?" >&2' EXIT
 trap 'echo none' USR1
-prove_with_progress "$room/log" rt staticlib c
+prove_with_progress "$room/log" rt "lib --cpu x86-64" c
 echo "status \$?"
 trap -p
 END
@@ -87,18 +94,54 @@ the caller ends with 0" "$(cat "$room/err")"
 same "proving: the status is that of rt, and the caller's traps are as they were" "status 7
 trap -- 'echo \"the caller ends with \$?\" >&2' EXIT
 trap -- 'echo none' SIGUSR1" "$(cat "$room/out")"
-same "proving: rt has its words, and nothing to read" "staticlib c|" "$(cat "$room/asked")|$(cat "$room/read")"
-same "proving: the log has all that rt said" "6" "$(wc -l <"$room/log" | tr -d ' ')"
+same "proving: rt has its words in the crate's folder, and nothing to read" "c lib --cpu x86-64|" "$(cat "$room/asked")|$(cat "$room/read")"
+same "proving: the log has all that rt said" "12" "$(wc -l <"$room/log" | tr -d ' ')"
 same "proving: nothing is left of what rt has started, and of its temporary files" "0 of 2 processes, 0 files" "$(left)"
 
 cat >"$room/plain" <<END
 cd "$room"
 . "$root/tools/proving.bash"
-prove_with_progress "$room/log" rt staticlib c
+prove_with_progress "$room/log" rt lib c
 echo "\$? \$(trap -p)"
 END
 same "proving: a caller without traps has none after it" "7 " "$(bash "$room/plain" 2>/dev/null)"
 left >/dev/null
+
+# Crates that have not changed since they were proved, of which rt says nothing, and one that is not proved.
+mkdir "$room/other-bin"
+cat >"$room/other-bin/rt" <<END
+#!/usr/bin/env bash
+echo "\$(basename "\$PWD") \$*" >>"$room/asked-each"
+if [ -e "$room/fails" ]; then
+    echo "crate a: modules loaded=1 checked=0"
+    echo "logic=not-proved"
+    exit 5
+fi
+echo "crate \$(basename "\$PWD"): modules loaded=1 checked=0"
+echo "logic=proved functions=1"
+END
+chmod +x "$room/other-bin/rt"
+cat >"$room/several" <<END
+cd "$room"
+PATH=$room/other-bin:\$PATH
+. "$root/tools/proving.bash"
+prove_with_progress "$room/log" rt check b other
+echo "status \$?"
+paste -sd, "$room/asked-each"
+END
+several() {
+    rm -f "$room/asked-each"
+    bash "$room/several" 2>&1
+}
+same "proving: several crates are proved one after the other, and what rt is silent of is told at the end" "proved 1 of 4: b
+proved 2 of 4: other
+proved 3 of 4: a
+proved 4 of 4: c
+status 0
+b check,other check" "$(several)"
+: >"$room/fails"
+same "proving: after one that is not proved comes no other" "status 5
+b check" "$(several)"
 
 # Each signal, to the script alone, and to its group, as a terminal sends it. With `set -m` the script has a group of its own.
 # Whoever runs this may ignore a signal, and then a script cannot catch it: so each is first as it is by default.

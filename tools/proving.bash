@@ -14,9 +14,10 @@ crates_behind() { # NAME..
         }
         { sub(/#.*/, "") }
         /:/ {
-            name = $0
-            sub(/:.*/, "", name)
-            gsub(/[ \t]/, "", name)
+            # Behind the name may stand `staticlib`.
+            sub(/^[ \t]+/, "")
+            split($0, names, /[ \t:]+/)
+            name = names[1]
             sub(/^[^:]*:/, "")
             uses[name] = $0
             listed = listed " " name
@@ -27,15 +28,19 @@ crates_behind() { # NAME..
         }' crates.txt
 }
 
-# Runs `rt` in a session of its own, with nothing to read and a folder of its own for what it writes in between; all that it
-# says goes to LOG. Each crate that is done is told on standard error: in one line that changes where that is a terminal,
-# otherwise in a line each. Returns the status of `rt`. A signal that ends this shell meanwhile (INT, TERM, HUP: the status is 130,
-# 143, 129), and any other end, ends the session first; the caller's own traps are put back, and that for EXIT is run.
+# Runs `rt VERB` in the folder of each crate NAME, one after the other, up to the first that fails; VERB may have flags in the same
+# word. It has a session of its own, nothing to read, and a folder of its own for what it writes in between; all that it says goes to
+# LOG. `rt` proves the crates that NAME uses as well, where they have changed since they were proved, and says nothing of one that
+# has not. Each crate that is done is told on standard error, the silent ones at the end: in one line that changes where that is a
+# terminal, otherwise in a line each. Returns the status of `rt`. A signal that ends this shell meanwhile (INT, TERM, HUP: the status
+# is 130, 143, 129), and any other end, ends the session first; the caller's own traps are put back, and that for EXIT is run.
 prove_with_progress() { # LOG rt VERB NAME..
-    local log=$1 name line part='' total count=0 status lines silence running=yes
+    local log=$1 name line part='' of='' total count=0 status lines silence running=yes
+    local -a behind
     local -A left=()
     shift
-    for name in $(crates_behind "${@:3}"); do left[$name]=yes; done
+    mapfile -t behind < <(crates_behind "${@:3}")
+    for name in "${behind[@]}"; do left[$name]=yes; done
     total=${#left[@]}
     # Of the silence nothing is ever read: a pause without a process, of which the shell would tell how a signal ends it.
     : >"$log" && exec {lines}<"$log" {silence}<> <(:) && proving_room=$(mktemp -d) || return
@@ -48,29 +53,35 @@ prove_with_progress() { # LOG rt VERB NAME..
     trap 'exit 143' TERM
     trap 'exit 129' HUP
     trap 'exit 131' QUIT
-    TMPDIR=$proving_room setsid "$@" >"$log" 2>&1 </dev/null &
+    TMPDIR=$proving_room setsid bash -c 'for name in "${@:3}"; do (cd "crates/$name" && exec "$1" $2) || exit; done' prover "$@" \
+        >"$log" 2>&1 </dev/null &
     while [ "$running" = yes ]; do
         read -r -t 0.2 -u "$silence" _ || :
         # What was said last is read after the end.
         kill -0 "$!" 2>/dev/null || running=no
         while IFS= read -r line <&"$lines"; do
             line=$part$line part=
-            # The crate of `rt staticlib` itself has a line of another kind.
-            [[ $line =~ ^rt:\ ([a-zA-Z0-9_]+)\ proved\ \( || $line =~ ^rt:\ target/staticlib/lib([a-zA-Z0-9_]+)\.a\ has\  ]] || continue
-            name=${BASH_REMATCH[1]}
-            [ -n "${left[$name]-}" ] || continue
-            unset "left[$name]"
-            count=$((count + 1))
-            line="proved $count of $total: $name"
-            if [ -t 2 ]; then printf '\r%-60s' "$line" >&2 && proving_shown=yes; else echo "$line" >&2; fi
+            # A crate's count of modules; and behind it, where that is so, that the crate is proved.
+            [[ ! $line =~ ^crate\ ([a-z0-9_]+):\  ]] || of=${BASH_REMATCH[1]}
+            [[ ! $line =~ ^logic=proved\  ]] || tell_proved "$of"
         done
         # A line that is still being written.
         part+=$line
     done
     exec {lines}<&- {silence}<&-
     wait "$!" && status=0 || status=$?
+    if [ "$status" = 0 ]; then for name in "${behind[@]}"; do tell_proved "$name"; done; fi
     end_proving
     return "$status"
+}
+
+# Tells a crate once, of prove_with_progress.
+tell_proved() { # NAME
+    [ -n "$1" ] && [ -n "${left[$1]-}" ] || return 0
+    unset "left[$1]"
+    count=$((count + 1))
+    local line="proved $count of $total: $1"
+    if [ -t 2 ]; then printf '\r%-60s' "$line" >&2 && proving_shown=yes; else echo "$line" >&2; fi
 }
 
 # Ends what prove_with_progress has started, and puts back what it has changed. Returns the status that there was before.
