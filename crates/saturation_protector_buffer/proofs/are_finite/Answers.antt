@@ -17,7 +17,7 @@ use Rattle.saturation_protector_buffer.proofs.are_finite.Goals as goal
 pub loop-i-preserved : goal.loop-i-preserved
 unfolding all_finite
 loop-i-preserved c =
-    let stored = c.args.t1 in
+    let stored = c.args.stored in
     let n = c.args.n in
     let loop = c.loop-i in
     let ok = loop.ok in
@@ -33,7 +33,7 @@ loop-i-preserved c =
 pub returns : goal.returns
 unfolding all_finite
 returns c =
-    let stored = c.args.t1 in
+    let stored = c.args.stored in
     let n = c.args.n in
     let loop = c.loop-i in
     let long : length stored ≡ largest = search rules in

@@ -61,19 +61,19 @@ loop-i-preserved c =
     let i = c.loop-i.i in
     let n = at.n in
     let m = at.m in
-    let xs = round n at.t1 at.from at.size in
-    let ys = round m at.t4 at.other at.size in
+    let xs = round n at.xs at.from at.size in
+    let ys = round m at.ys at.other at.size in
     let pre = c.requires in
-    let first : length at.t1 ≡ largest = search rules in
-    let second : length at.t4 ≡ largest = search rules in
-    let one : n ≤ length at.t1 = omega (arith, pre.1) in
-    let two : m ≤ length at.t4 = omega (arith, pre.3) in
-    let long-xs : length xs ≡ at.size = length_round n at.t1 at.from one pre.0 at.size pre.4 in
-    let long-ys : length ys ≡ at.size = length_round m at.t4 at.other two pre.2 at.size pre.5 in (
+    let first : length at.xs ≡ largest = search rules in
+    let second : length at.ys ≡ largest = search rules in
+    let one : n ≤ length at.xs = omega (arith, pre.1) in
+    let two : m ≤ length at.ys = omega (arith, pre.3) in
+    let long-xs : length xs ≡ at.size = length_round n at.xs at.from one pre.0 at.size pre.4 in
+    let long-ys : length ys ≡ at.size = length_round m at.ys at.other two pre.2 at.size pre.5 in (
       omega arith,
       one_more c.loop-i.same xs ys i _ _ (omega arith) (omega arith)
-          (round_at n at.t1 at.from one pre.0 at.size i nan pre.4 (omega arith))
-          (round_at m at.t4 at.other two pre.2 at.size i nan pre.5 (omega arith))
+          (round_at n at.xs at.from one pre.0 at.size i nan pre.4 (omega arith))
+          (round_at m at.ys at.other two pre.2 at.size i nan pre.5 (omega arith))
           ∙ c.loop-i.invariant.1,
     )
 
@@ -83,13 +83,13 @@ returns c =
     let i = c.loop-i.i in
     let n = at.n in
     let m = at.m in
-    let xs = round n at.t1 at.from at.size in
-    let ys = round m at.t4 at.other at.size in
+    let xs = round n at.xs at.from at.size in
+    let ys = round m at.ys at.other at.size in
     let pre = c.requires in
-    let first : length at.t1 ≡ largest = search rules in
-    let second : length at.t4 ≡ largest = search rules in
-    let one : n ≤ length at.t1 = omega (arith, pre.1) in
-    let two : m ≤ length at.t4 = omega (arith, pre.3) in
-    let long-xs : length xs ≡ at.size = length_round n at.t1 at.from one pre.0 at.size pre.4 in
-    let long-ys : length ys ≡ at.size = length_round m at.t4 at.other two pre.2 at.size pre.5 in
+    let first : length at.xs ≡ largest = search rules in
+    let second : length at.ys ≡ largest = search rules in
+    let one : n ≤ length at.xs = omega (arith, pre.1) in
+    let two : m ≤ length at.ys = omega (arith, pre.3) in
+    let long-xs : length xs ≡ at.size = length_round n at.xs at.from one pre.0 at.size pre.4 in
+    let long-ys : length ys ≡ at.size = length_round m at.ys at.other two pre.2 at.size pre.5 in
     sym (none_left c.loop-i.same xs ys i (omega arith) (omega arith)) ∙ c.loop-i.invariant.1

@@ -8,12 +8,12 @@ use Rattle.saturation_protector_buffer.proofs.Ring.passes.Goals as goal
 pub are_finite-requires : goal.are_finite-requires
 are_finite-requires c =
     let test = c in
-    (fitting test.args.self (sym test.fits2.ensures ∙ test.if-fits.true)).capacity
+    (fitting test.args.self (sym test.fits.ensures ∙ test.if-fits.true)).capacity
 
 pub returns-then-fits : goal.returns-then-fits
 unfolding passes
-returns-then-fits c = let test = c in rw (c.are_finite.ensures, ← test.fits2.ensures, test.if-fits.true)
+returns-then-fits c = let test = c in rw (c.are_finite.ensures, ← test.fits.ensures, test.if-fits.true)
 
 pub returns-else-fits : goal.returns-else-fits
 unfolding passes
-returns-else-fits c = rw (← c.fits2.ensures, c.if-fits.false)
+returns-else-fits c = rw (← c.fits.ensures, c.if-fits.false)
