@@ -14,9 +14,8 @@ crates_behind() { # NAME..
         }
         { sub(/#.*/, "") }
         /:/ {
-            name = $0
+            name = $1
             sub(/:.*/, "", name)
-            gsub(/[ \t]/, "", name)
             sub(/^[^:]*:/, "")
             uses[name] = $0
             listed = listed " " name
