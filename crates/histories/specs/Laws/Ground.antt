@@ -8,8 +8,8 @@ use Rattle.units.specs.declared.settings.Settings.{Settings}
 use Rattle.runs.specs.Runs.{speech, longer, closed, framed}
 use Rattle.runs.specs.Histories.{Settled}
 use Rattle.runs.specs.Laws.Counts.{held, held_longer, held_below, held_at}
-use Rattle.runs.specs.Laws.Short.{framed_settled}
-use Rattle.runs.specs.Laws.Near.{near_itself}
+use Rattle.runs.proofs.Short.{framed_settled}
+use Rattle.runs.proofs.Near.{near_itself}
 use Rattle.speech_level_estimator.specs.Average as Average
 use Rattle.speech_level_estimator.specs.Estimator as Level
 use Rattle.saturation_protector.specs.Peaks as Peaks
