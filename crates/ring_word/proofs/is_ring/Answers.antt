@@ -20,7 +20,7 @@ module _ (word : List ℕ) where
   of-another n = rw (ne_eqb (length word) 6 n)
 
 pub returns-then-word-eq6 : goal.returns-then-word-eq6
-returns-then-word-eq6 c = let start = c in as_long start.args.word.now start.if-word-eq6.true
+returns-then-word-eq6 c = as_long c.args.word.now c.if-word-eq6.true
 
 pub returns-else-word-eq6 : goal.returns-else-word-eq6
 returns-else-word-eq6 c = of-another c.args.word.now c.if-word-eq6.false

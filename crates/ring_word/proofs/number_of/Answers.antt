@@ -25,8 +25,7 @@ returns-then-word-eq1 c = c.one_digit.ensures ∙ one c.args.word.now c.if-word-
 
 pub returns-then-word-eq2 : goal.returns-then-word-eq2
 returns-then-word-eq2 c =
-    let start = c in
-    c.two_digits.ensures ∙ two start.args.word.now start.if-word-eq1.false start.if-word-eq2.true
+    c.two_digits.ensures ∙ two c.args.word.now c.if-word-eq1.false c.if-word-eq2.true
 
 pub returns-else-word-eq2 : goal.returns-else-word-eq2
 returns-else-word-eq2 c = other c.args.word.now c.if-word-eq1.false c.if-word-eq2.false

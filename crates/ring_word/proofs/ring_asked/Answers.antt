@@ -4,7 +4,8 @@ use Rattle.ring_word.proofs.ring_asked.Goals as goal
 
 pub returns-then-is_ring : goal.returns-then-is_ring
 unfolding asked_by
-returns-then-is_ring c = rw (c.is_capacity.ensures, c.number_of-capacity.ensures, ← c.is_ring.ensures, c.if-is_ring.true)
+returns-then-is_ring c =
+    rw (c.is_capacity.ensures, c.number_of-capacity.ensures, ← c.is_ring.ensures, c.if-is_ring.true)
 
 pub returns-else-is_ring : goal.returns-else-is_ring
 unfolding asked_by
