@@ -1,0 +1,28 @@
+-- `gain_applier::clip_part` meets its contract, by the laws of what is done in blocks. Assumes nothing.
+use Rattle.std.proofs.Common.{◌-◌, [], length, arith, rules}
+use Rattle.gain_applier.specs.Sound.{clipped}
+use Rattle.frames.specs.Blocks.{Blocks, blocks_begin, blocks_go_on, blocks_end, alone}
+use Rattle.gain_applier.specs.Laws.Blocks.{clipped_split}
+use Rattle.gain_applier.proofs.clip_part.Goals as goal
+
+pub loop-part-init : goal.loop-part-init
+loop-part-init c = blocks_begin
+
+pub loop-part-preserved : goal.loop-part-preserved
+loop-part-preserved c =
+    let loop = c.loop-part in
+    let made = c.clip_some in
+    blocks_go_on clipped_split loop.invariant 48 (omega arith) made.ensures made.auto.part
+
+pub loop-part-smaller : goal.loop-part-smaller
+loop-part-smaller c = omega (arith, (loop-part-preserved c).same)
+
+pub shape_of-part : goal.shape_of-part
+shape_of-part c =
+    let made = c.clip_some-2 in
+    (blocks_end clipped_split c.loop-part.invariant made.ensures made.auto.part).0
+
+pub returns : goal.returns
+returns c =
+    let made = c.clip_some-2 in
+    (blocks_end clipped_split c.loop-part.invariant made.ensures made.auto.part).1

@@ -1,0 +1,11 @@
+-- `gain_applier::multiply_channels` meets its contract, by the laws of the walk over what is done to a part. Assumes nothing.
+use Rattle.std.proofs.Common.{arith, length-drop, length-take}
+use Rattle.frames.specs.Walk.{Walking, walk_begins, walk_room, walk_goes_on, walk_ends}
+use Rattle.gain_applier.specs.Gains.{multiplied}
+use Rattle.gain_applier.proofs.multiply_channels.Given as goal
+
+abbrev pub invariant-loop-left : goal.invariant-loop-left
+invariant-loop-left l = Walking (multiplied l.gains) l.channels l.samples l.initial.frame l.frame l.start l.left
+
+abbrev pub decreases-loop-left : goal.decreases-loop-left
+decreases-loop-left l = l.left

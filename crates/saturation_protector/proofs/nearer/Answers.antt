@@ -1,0 +1,8 @@
+-- `saturation_protector::nearer` meets its contract: a choice, four operations and a clamp. Assumes nothing.
+use Rattle.saturation_protector.specs.Peaks.{nearer}
+use borrow.Author.Rules.{rules}
+use Rattle.saturation_protector.proofs.nearer.Goals as goal
+
+pub returns : goal.returns
+unfolding nearer
+returns c = rw (c.clamp.ensures, c.pick_f32-stays.ensures)

@@ -1,0 +1,8 @@
+-- `speech_level_estimator::Average::advanced` meets its contract: field by field. Assumes nothing.
+use Rattle.std.proofs.Common.{rules}
+use Rattle.speech_level_estimator.specs.Average.{advanced}
+use Rattle.speech_level_estimator.proofs.Average.advanced.Goals as goal
+
+pub returns : goal.returns
+unfolding advanced
+returns c = rw (c.less.ensures, c.pick_f32-leak.ensures)

@@ -1,0 +1,8 @@
+-- `speech_level_estimator::Estimator::level_dbfs` meets its contract. Assumes nothing.
+use Rattle.std.proofs.Common.{rules}
+use Rattle.speech_level_estimator.specs.Calls.{level_told}
+use Rattle.speech_level_estimator.proofs.Estimator.level_dbfs.Goals as goal
+
+pub returns : goal.returns
+unfolding level_told
+returns c = rw (c.pick_f32.ensures, c.refusal.ensures, c.passes-ok.ensures)
