@@ -1,7 +1,7 @@
 -- By any description: what is written is read back, and what is read is written back. Laws.
 -- Assumes nothing.
 use Rattle.std.specs.Prelude.{◌≡◌, refl, List, [], ◌∷◌, ◌++◌, ℕ, zero, suc, ◌+◌, ◌*◌, ◌/◌, ◌%◌, ◌^◌, ◌≤◌, ◌<◌, length, get_or, take, drop}
-use Rattle.std.proofs.Common.{sym, ap, append_assoc, div-add-mod', arith, length-append, length-drop, take-suc, take-add, drop-drop, get_or-drop}
+use Rattle.std.proofs.Common.{sym, ap, ◌∙◌, append_assoc, div-add-mod', arith, length-append, length-drop, take-suc, take-add, drop-drop, get_or-drop}
 use Rattle.std.proofs.Math.Nat.{pow-succ'}
 use Rattle.std.proofs.Math.Seq.{append_snoc}
 use Rattle.std.proofs.lemmas.List.{get_or_at}
@@ -38,7 +38,12 @@ number_back pre post (suc w) n h =
     let there : get_or (pre ++ (front ++ (last ∷ post))) (length pre + w) 0 ≡ last =
     rw (← append_assoc pre front (last ∷ post))
     (get_or_at (pre ++ front) last post 0 (length pre + w) (rw (length-append, field_length w (n / 256)))) in
-    rw (append_snoc front last post, number_back pre (last ∷ post) w (n / 256) (less w n h), there) (div-add-mod' n 256)
+    let whole : big_endian (suc w) n ++ post ≡ front ++ (last ∷ post) = append_snoc front last post in
+    let high : number_at (pre ++ (big_endian (suc w) n ++ post)) (length pre) w ≡ n / 256 =
+    ap (λ (l : List ℕ). number_at (pre ++ l) (length pre) w) whole ∙ number_back pre (last ∷ post) w (n / 256) (less w n h) in
+    let low : get_or (pre ++ (big_endian (suc w) n ++ post)) (length pre + w) 0 ≡ last =
+    ap (λ (l : List ℕ). get_or (pre ++ l) (length pre + w) 0) whole ∙ there in
+    rw (high, low) (div-add-mod' n 256)
 
 -- The number of bytes is below what as many bytes can say.
 pub number_small : (bytes : List ℕ) (at w : ℕ) → Bytes bytes → at + w ≤ length bytes → number_at bytes at w < 256 ^ w

@@ -1,10 +1,10 @@
 -- A head or a record that is settled by the first bytes of a strip stays so, whatever bytes follow: what reading in pieces rests on. Laws.
 -- Assumes nothing.
-use Rattle.std.specs.Prelude.{◌≡◌, Bool, true, false, ◌&&◌, List, [], ◌∷◌, ◌++◌, ℕ, zero, suc, ◌+◌, ◌*◌, ◌≤◌, ◌<◌, ◌⊎◌, ltb, length, get_or}
+use Rattle.std.specs.Prelude.{◌≡◌, Bool, true, false, ◌&&◌, List, [], ◌∷◌, ◌++◌, ℕ, zero, suc, ◌+◌, ◌≤◌, ◌<◌, ◌⊎◌, length}
 use Rattle.std.proofs.Math.Path.{refl}
-use Rattle.std.proofs.Common.{sym, ap, ◌∙◌, inl, inr, arith, leb-true, leb-false, ltb-true, ltb-false, eqb-true, le-leb, eq-eqb, ne_eqb, lt-ltb, length-append}
+use Rattle.std.proofs.Common.{sym, ap, ◌∙◌, inl, inr, arith, leb-true, leb-false, eqb-true, lt-ltb, length-append}
 use Rattle.std.proofs.Math.Bool.{cond}
-use Rattle.std.proofs.lemmas.Bool.{eqb-false, lt-leb}
+use Rattle.std.proofs.lemmas.Bool.{eqb-false}
 use Rattle.std.proofs.Math.Dec.{eqb, leb}
 use Rattle.std.proofs.Math.ListN.{get_or-append}
 use Rattle.units.specs.Replies.{done, cut, bad_length, bad_version, refusal}
@@ -14,7 +14,7 @@ use Rattle.units.specs.declared.figures.Figures.{Figures}
 use Rattle.frames.specs.Shape.{is_samples}
 use Rattle.strip_format.specs.Fields.{size, number_at, fields_at}
 use Rattle.strip_format.specs.Format.{number_of, version_of, head_fields, head_length, head_of, record_fields, record_length, figures_of, Entry, figures, gap, entry_size}
-use Rattle.strip_format.specs.Calls.{Read, is_threshold, head_refusal, record_refusal, refused_head, judged_head, read_head, refused_record, ended, found, judged_record, is_gap, read_record, said_of}
+use Rattle.strip_format.specs.Calls.{Read, is_threshold, head_refusal, record_refusal, refused_head, judged_head, read_head, refused_record, ended, found, judged_record, is_gap, read_record}
 use Rattle.strip_format.specs.Laws.Steps.{HeadThere, RecordThere}
 use Rattle.strip_format.specs.Laws.Heads.{head_stood}
 use Rattle.strip_format.specs.Laws.Records.{stood}

@@ -1,0 +1,16 @@
+-- `strip_carry::carry_gap` meets its contract. Assumes nothing.
+use Rattle.strip_carry.proofs.Lines.{gap_put, gap_passed}
+use Rattle.strip_carry.proofs.carry_gap.Goals as goal
+
+pub returns-then-tally-eq-DONE : goal.returns-then-tally-eq-DONE
+returns-then-tally-eq-DONE c =
+    let write = c.write_gap-reply in
+    let a = c.args in
+    let both = gap_put a.tally a.out.now write.result _ c.count.result c.if-tally-eq-DONE.true c.requires write.ensures.value write.ensures.out_after c.count.ensures in
+    record { value = both.0; out_after = both.1 }
+
+pub returns-else-tally-eq-DONE : goal.returns-else-tally-eq-DONE
+returns-else-tally-eq-DONE c =
+    let a = c.args in
+    let both = gap_passed a.tally a.out.now c.pass_by.result c.if-tally-eq-DONE.false c.pass_by.ensures in
+    record { value = both.0; out_after = both.1 }
