@@ -1,0 +1,79 @@
+// What the programs ask of the world around them: the words of the command, why a call failed, and whether standard output
+// keeps what was written to it.
+
+#![tactic(auto)]
+
+ghost use Rattle.io.specs.Counts.{IsPrefixLen};
+
+use std::env::{Env, FillError};
+use std::fs;
+use std::fs::OpenOptions;
+use std::io::{Error, Result};
+use std::os::fd::AsFd;
+
+// Standard output by its path.
+const OUTPUT: &str = "/proc/self/fd/1";
+
+// Puts a word of the command at the start of a buffer, and answers how long it is: 0 where there is no such word, and where it is
+// longer than the buffer. Word 0 is the program's own name.
+pub fn word(rt: &HostRuntime, number: usize, buffer: &mut [u8]) -> usize
+    ensures { IsPrefixLen result buffer.new }
+{
+    rt.arg(number, buffer).unwrap_or(0)
+}
+
+// How many words the command has, the program's own name among them.
+pub fn word_count(rt: &HostRuntime) -> usize {
+    let mut room = [0u8; 1];
+    for i in 0..usize::MAX {
+        if let Err(FillError::NotPresent) = rt.arg(i, &mut room) {
+            return i;
+        }
+    }
+    usize::MAX
+}
+
+// Tells a text on standard error. Where nobody can be told, nothing comes of it.
+pub fn tell(rt: &HostRuntime, text: &str) {
+    let _ = rt.eprint(text);
+}
+
+// The reason that an error's text gives, without the system's number for it.
+fn reason(text: &str) -> &str {
+    match text.split_once(" (os error ") {
+        Some((reason, _)) => reason,
+        None => text,
+    }
+}
+
+// Tells on standard error what failed, as the caller names it, and why.
+pub fn fail(rt: &HostRuntime, what: &str, error: Error) {
+    let _ = match format!(in rt.alloc(); "{error}") {
+        Ok(text) => rt.eprintln(format_args!("{what}: {}", reason(text.as_str()))),
+        Err(_) => rt.eprintln(format_args!("{what}: {error}")),
+    };
+}
+
+// Whether standard output is a file.
+fn is_file(rt: &HostRuntime) -> bool {
+    match fs::metadata(rt, OUTPUT) {
+        Ok(known) => known.is_file(),
+        Err(_) => false,
+    }
+}
+
+// Has the system put what was written to standard output on its disk. Where the file cannot be opened again there is nobody to
+// ask.
+fn sync_output(rt: &HostRuntime) -> Result<()> {
+    match OpenOptions::new().append(true).open(rt, OUTPUT) {
+        Ok(file) => file.sync_data(),
+        Err(_) => Ok(()),
+    }
+}
+
+// Answers well where standard output is open, and keeps all that was written to it. A file may be on a disk that takes what is
+// written, and fails only later.
+pub fn settle_output(rt: &HostRuntime) -> Result<()> {
+    let _open = rt.stdout().as_fd().try_clone_to_owned()?;
+    if is_file(rt) { sync_output(rt) } else { Ok(()) }
+}
