@@ -1,0 +1,8 @@
+-- `chain::Chain::samples` meets its contract. Assumes nothing.
+use Rattle.chain.specs.Calls.{samples_told}
+use borrow.Author.Rules.{rules}
+use Rattle.chain.proofs.Chain.samples.Goals as goal
+
+pub returns : goal.returns
+unfolding samples_told
+returns c = rw (c.pick_usize.ensures, c.refusal.ensures, c.passes-ok.ensures)

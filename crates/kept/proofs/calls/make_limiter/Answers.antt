@@ -1,0 +1,8 @@
+-- `kept::calls::make_limiter` meets its contract. Assumes nothing.
+use Rattle.kept.specs.Calls.{limiter_made}
+use borrow.Author.Rules.{rules}
+use Rattle.kept.proofs.calls.make_limiter.Goals as goal
+
+pub returns : goal.returns
+unfolding limiter_made
+returns c = rw (c.of.ensures, c.new-made.ensures)

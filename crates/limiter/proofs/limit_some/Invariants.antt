@@ -1,0 +1,21 @@
+-- `limiter::limit_some` meets its contract. The invariant: what is done, then the definition on what is left, by the factors that are left; and what is left are numbers. Assumes nothing.
+use mathlib.Core.Path.{◌≡◌, refl, sym, ap, ◌∙◌}
+use mathlib.Core.List.{List, ◌∷◌, ◌++◌}
+use Prim.Native.Nat.{◌+◌, ◌-◌, ◌≤◌, ◌<◌}
+use native.Mathlib.Omega.{arith}
+use borrow.Author.Rules.{rules}
+use lib.ListN.{length, take, drop, get_or, length-set}
+use lib.Ieee.{Float, nan}
+use Rattle.lists.specs.Each.{Each, each_at}
+use Rattle.lists.specs.Loops.{in_place, in_place_done}
+use Rattle.lists.specs.Stores.{next, after_store}
+use Rattle.limiter.specs.Factors.{limited}
+use Rattle.limiter.specs.Scale.{Finite}
+use Rattle.limiter.specs.Laws.Products.{clamp_turned}
+use Rattle.limiter.proofs.limit_some.Given as goal
+
+abbrev pub invariant-loop-i : goal.invariant-loop-i
+invariant-loop-i l = (length l.part ≡ length l.initial.part) × (l.i ≤ length l.part) × (take l.i l.part ++ limited (drop l.i l.by) (drop l.i l.part) ≡ limited l.by l.initial.part) × Each Finite (drop l.i l.part)
+
+abbrev pub decreases-loop-i : goal.decreases-loop-i
+decreases-loop-i l = length l.part - l.i
