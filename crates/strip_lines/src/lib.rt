@@ -49,7 +49,7 @@ fn put_byte(text: &mut [u8], at: usize, byte: u8) -> usize
 // Puts the decimal digits of a number in front of what stands from a place on, and answers the place of the
 // first: no more than 20 before.
 fn put_number(text: &mut [u8], at: usize, n: u64) -> usize
-    requires le_at { 20 ≤ at }
+    requires room_in_front { 20 ≤ at }
     requires at_in_bounds { at ≤ length text.old }
     ensures text_after { drop result text.new ≡ decimal n ++ drop at text.old }
     ensures at_bound { at ≤ result + 20 }
@@ -96,8 +96,8 @@ fn hundredths_of(x: f32) -> u64
 // Puts a figure's hundredths in front of what stands from a place on, with a sign where they are below zero,
 // and answers the place of the first character: no more than 21 before.
 fn put_figure(text: &mut [u8], at: usize, x: f32) -> usize
-    requires binary32_value { closed (of_bits binary32 0xc316_0000) x (of_bits binary32 0x4316_0000) ≡ true }
-    requires le_at { 21 ≤ at }
+    requires in_range { closed (of_bits binary32 0xc316_0000) x (of_bits binary32 0x4316_0000) ≡ true }
+    requires room_in_front { 21 ≤ at }
     requires at_in_bounds { at ≤ length text.old }
     ensures text_after { drop result text.new ≡ figure x ++ drop at text.old }
     ensures at_bound { at ≤ result + 21 }
@@ -115,7 +115,7 @@ fn put_figure(text: &mut [u8], at: usize, x: f32) -> usize
 
 // Puts a space and a character in front of what stands from a place on, and answers the space's place.
 fn put_mark(text: &mut [u8], at: usize, byte: u8) -> usize
-    requires le_at { 2 ≤ at }
+    requires room_in_front { 2 ≤ at }
     requires at_in_bounds { at ≤ length text.old }
     ensures value { result ≡ at - 2 }
     ensures text_after { drop result text.new ≡ space ∷ byte ∷ drop at text.old }
@@ -128,8 +128,8 @@ fn put_mark(text: &mut [u8], at: usize, byte: u8) -> usize
 // Puts a space and a figure in front of what stands from a place on, and answers the space's place: no more
 // than 22 before.
 fn put_field(text: &mut [u8], at: usize, x: f32) -> usize
-    requires binary32_value { closed (of_bits binary32 0xc316_0000) x (of_bits binary32 0x4316_0000) ≡ true }
-    requires le_at { 22 ≤ at }
+    requires in_range { closed (of_bits binary32 0xc316_0000) x (of_bits binary32 0x4316_0000) ≡ true }
+    requires room_in_front { 22 ≤ at }
     requires at_in_bounds { at ≤ length text.old }
     ensures text_after { drop result text.new ≡ space ∷ figure x ++ drop at text.old }
     ensures at_bound { at ≤ result + 22 }
@@ -143,10 +143,10 @@ fn put_field(text: &mut [u8], at: usize, x: f32) -> usize
 // Puts three figures, each after a space, in front of what stands from a place on, and answers the place of
 // the first space: no more than 66 before.
 fn put_figures(text: &mut [u8], at: usize, level: f32, headroom: f32, gain: f32) -> usize
-    requires binary32_value { closed (of_bits binary32 0xc316_0000) level (of_bits binary32 0x4316_0000) ≡ true }
-    requires binary32_value_2 { closed (of_bits binary32 0xc316_0000) headroom (of_bits binary32 0x4316_0000) ≡ true }
-    requires binary32_value_3 { closed (of_bits binary32 0xc316_0000) gain (of_bits binary32 0x4316_0000) ≡ true }
-    requires le_at { 66 ≤ at }
+    requires level_in_range { closed (of_bits binary32 0xc316_0000) level (of_bits binary32 0x4316_0000) ≡ true }
+    requires headroom_in_range { closed (of_bits binary32 0xc316_0000) headroom (of_bits binary32 0x4316_0000) ≡ true }
+    requires gain_in_range { closed (of_bits binary32 0xc316_0000) gain (of_bits binary32 0x4316_0000) ≡ true }
+    requires room_in_front { 66 ≤ at }
     requires at_in_bounds { at ≤ length text.old }
     ensures text_after { drop result text.new ≡ space ∷ figure level ++ (space ∷ figure headroom ++ (space ∷ figure gain ++ drop at text.old)) }
     ensures at_bound { at ≤ result + 66 }
@@ -196,13 +196,13 @@ fn put_record(
     gain: f32,
     confident: bool,
 ) -> usize
-    requires text_len { length text.old ≡ 96 }
-    requires binary32_value { closed (of_bits binary32 0xc316_0000) level (of_bits binary32 0x4316_0000) ≡ true }
-    requires binary32_value_2 { closed (of_bits binary32 0xc316_0000) headroom (of_bits binary32 0x4316_0000) ≡ true }
-    requires binary32_value_3 { closed (of_bits binary32 0xc316_0000) gain (of_bits binary32 0x4316_0000) ≡ true }
+    requires text_len_before { length text.old ≡ 96 }
+    requires level_in_range { closed (of_bits binary32 0xc316_0000) level (of_bits binary32 0x4316_0000) ≡ true }
+    requires headroom_in_range { closed (of_bits binary32 0xc316_0000) headroom (of_bits binary32 0x4316_0000) ≡ true }
+    requires gain_in_range { closed (of_bits binary32 0xc316_0000) gain (of_bits binary32 0x4316_0000) ≡ true }
     ensures text_after { drop result text.new ≡ record_line number (number_of kind) level headroom gain confident }
     ensures upper_bound { result ≤ 96 }
-    ensures text_len_2 { length text.new ≡ 96 }
+    ensures text_len_after { length text.new ≡ 96 }
 {
     let end = put_byte(text, LONGEST, b'\n');
     let sure = put_mark(text, end, digit(confident));
@@ -216,7 +216,7 @@ fn put_refusal(text: &mut [u8], number: u64, reply: u32) -> usize
     requires { length text.old ≡ 96 }
     ensures text_after { drop result text.new ≡ refusal_line number reply }
     ensures upper_bound { result ≤ 96 }
-    ensures text_len { length text.new ≡ 96 }
+    ensures text_len_after { length text.new ≡ 96 }
 {
     let newline = put_byte(text, LONGEST, b'\n');
     let last = put_number(text, newline, reply as u64);
@@ -242,7 +242,7 @@ fn put_line(line: &[u8], out: &mut [u8]) -> Line
 {
     let fits = line.len() <= out.len();
     let length = floats::pick_usize(fits, line.len(), 0);
-    bytes::copy(&line[..length], out);
+    out[..length].copy_from_slice(&line[..length]);
     Line {
         reply: floats::pick_u32(fits, DONE, ROOM),
         length,

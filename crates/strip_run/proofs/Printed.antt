@@ -1,7 +1,6 @@
 -- What a line that was put makes of a desk. Assumes nothing.
-use Rattle.std.proofs.Common.{◌≡◌, ℕ, ◌≤◌, Bool, true, false, cond, eqb, List, [], ◌++◌, length, drop, sym, refl, ap, ◌∙◌, subst, arith, eq-eqb, ne_eqb, eqb-true, le-leb}
+use Rattle.std.proofs.Common.{◌≡◌, ℕ, ◌≤◌, Bool, true, false, eqb, List, ◌++◌, length, drop, sym, refl, ap, ◌∙◌, subst, arith, ne_eqb, eqb-true, le-leb}
 use borrow.Author.Tests.{eqb-false}
-use lib.Ieee.{Float}
 use Rattle.units.specs.Replies.{done}
 use Rattle.units.specs.Output.{put}
 use Rattle.units.specs.declared.figures.Figures.{Figures}

@@ -86,8 +86,8 @@ fn refuse(desk: Desk, reply: u32, out: &mut [u8]) -> Line
 
 // As many silent samples as a channel can have.
 fn silent() -> [f32; SAMPLES]
-    ensures value { 480 ≡ length result }
-    ensures value_2 { result ≡ silence 480 }
+    ensures len { 480 ≡ length result }
+    ensures value { result ≡ silence 480 }
 {
     [0.0; SAMPLES]
 }

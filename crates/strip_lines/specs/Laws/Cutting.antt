@@ -1,6 +1,6 @@
 -- The hundredths of a figure, by the fields of its bits.
 -- Assumes nothing.
-use Rattle.std.specs.Prelude.{◌≡◌, refl, ◌⊎◌, Bool, true, false, not, ◌&&◌, ◌||◌, cond, [], ◌∷◌, ℕ, zero, suc, ◌+◌, ◌-◌, ◌*◌, ◌/◌, ◌%◌, ◌^◌, ◌≤◌, ◌<◌, ℤ, eqb, ltb, Float}
+use Rattle.std.specs.Prelude.{◌≡◌, refl, Bool, true, false, not, ◌&&◌, ◌||◌, [], ◌∷◌, ℕ, suc, ◌+◌, ◌-◌, ◌*◌, ◌/◌, ◌%◌, ◌^◌, ◌≤◌, ◌<◌, ℤ, eqb, ltb, Float}
 use Rattle.std.proofs.Common.{sym, ap, ap₂, ◌∙◌, subst, inl, inr, zero-add, mul_assoc, mul_comm, mul-div_cancel, le-div_iff_mul-le, mul-lt-mul_of_pos_right, mul-le-mul, lt_of_lt_of_le, lt_of_le_of_lt, le_of_eq, le_trans, lt_irrefl, ltb→lt, nltb→le, lit<, lit≤, pow-add, pow_pos, pow_mono, shl_lt}
 use Rattle.std.proofs.Math.Nat.{mul-div-mul_right, div-eq_of_lt}
 use native.Mathlib.Omega.{arith}

@@ -1,8 +1,8 @@
 -- What a line is like, whatever it says: it ends with its one newline, it fits into 96 bytes, and it signs no zero.
 -- Assumes nothing.
-use Rattle.std.specs.Prelude.{◌≡◌, refl, Bool, true, false, ◌&&◌, cond, ℕ, zero, suc, ◌+◌, ◌*◌, ◌/◌, ◌%◌, ◌≤◌, ◌<◌, eqb, ltb, leb, length, drop, Float}
+use Rattle.std.specs.Prelude.{◌≡◌, refl, Bool, true, false, ◌&&◌, cond, ℕ, zero, suc, ◌+◌, ◌/◌, ◌%◌, ◌≤◌, eqb, ltb, leb, length, drop, Float}
 use Rattle.std.proofs.Math.Path.{sym}
-use Rattle.std.proofs.Common.{ap, ◌∙◌, le_trans, arith, le→leb, length-append}
+use Rattle.std.proofs.Common.{ap, le_trans, arith, le→leb, length-append}
 use mathlib.Core.List.{List, [], ◌∷◌, ◌++◌, append_assoc}
 use Rattle.std.specs.Float.{binary32}
 use Rattle.std.specs.Float.Ieee.{of_bits, lt}
@@ -10,7 +10,7 @@ use Rattle.std.specs.Float.Ieee.Bits.{is_true}
 use Rattle.lists.specs.Each.{Each, each_append}
 use Rattle.rounding.specs.Units.{U, size}
 use Rattle.units.specs.Replies.{done}
-use Rattle.units.specs.Output.{Put, put}
+use Rattle.units.specs.Output.{put}
 use Rattle.strip_lines.specs.Lines.{longest, space, newline, minus, digit, spelled, decimal, hundredths, figure, gap_kind, letter, flag, record_line, refusal_line}
 use Rattle.strip_lines.specs.Calls.{record_refusal, put_record_line, put_refusal_line}
 

@@ -1,12 +1,12 @@
 -- A line that is put into a buffer: where it fits, and where it does not.
 -- Assumes nothing.
-use Rattle.std.specs.Prelude.{◌≡◌, refl, Bool, true, false, cond, List, ◌++◌, ℕ, ◌-◌, ◌≤◌, ◌<◌, T, leb, eqb, length, take, drop}
+use Rattle.std.specs.Prelude.{◌≡◌, refl, Bool, true, false, cond, List, ◌++◌, ℕ, ◌-◌, ◌≤◌, T, leb, eqb, length, take, drop}
 use Rattle.std.proofs.Common.{sym, ap, ◌∙◌, subst, le_of_eq, arith, leb→le, eqb→eq, length-drop, take_all}
 use Rattle.std.proofs.Math.Dec.{not_T}
 use Rattle.std.proofs.Math.Seq.{take-length}
 use Rattle.std.specs.Float.Ieee.Bits.{is_false}
 use Rattle.units.specs.Replies.{done, no_room}
-use Rattle.units.specs.Output.{Put, put}
+use Rattle.units.specs.Output.{put}
 use Rattle.strip_lines.specs.Calls.{line_of}
 use Rattle.strip_lines.specs.declared.Line.{Line}
 

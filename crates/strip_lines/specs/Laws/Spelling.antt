@@ -1,7 +1,7 @@
 -- A number is spelled from its last digit to its first.
 -- Assumes nothing.
-use Rattle.std.specs.Prelude.{◌≡◌, refl, Bool, true, not, cond, List, [], ◌∷◌, ◌++◌, ℕ, zero, suc, ◌+◌, ◌-◌, ◌*◌, ◌/◌, ◌%◌, ◌^◌, ◌≤◌, ◌<◌, T, ltb, length, get_or, set}
-use Rattle.std.proofs.Common.{sym, ◌∙◌, subst, append_assoc, pow-suc, not-suc-le-zero, ltb→lt, nltb→le, length-set, drop-cons, get_or-set_same, drop-set-lt}
+use Rattle.std.specs.Prelude.{◌≡◌, refl, Bool, true, not, cond, List, [], ◌∷◌, ◌++◌, ℕ, zero, suc, ◌+◌, ◌-◌, ◌/◌, ◌%◌, ◌^◌, ◌≤◌, ◌<◌, T, ltb, length, set}
+use Rattle.std.proofs.Common.{sym, ◌∙◌, pow-suc, not-suc-le-zero, ltb→lt, nltb→le, length-set, drop-cons, get_or-set_same, drop-set-lt}
 use Rattle.std.proofs.Math.Path.{ap}
 use Rattle.std.proofs.Math.Bool.{false}
 use native.Mathlib.Omega.{arith}

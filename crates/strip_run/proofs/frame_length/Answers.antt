@@ -1,9 +1,8 @@
 -- `strip_run::frame_length` meets its contract: the first n of fewer are all of them. Assumes nothing.
-use Rattle.std.proofs.Common.{◌≡◌, ℕ, ◌≤◌, List, length, take, replicate, sym, refl, ap, ◌∙◌, arith, take_all}
+use Rattle.std.proofs.Common.{◌≡◌, ℕ, ◌≤◌, List, take, replicate, sym, ap, ◌∙◌, arith, take_all}
 use lib.Ieee.{Float, binary32, of_bits}
 use Rattle.strip_run.specs.Lines.{silence}
-use Rattle.strip_run.proofs.frame_length.Statement.{statement}
-use Rattle.strip_run.proofs.frame_length.Tie as tie
+use Rattle.strip_run.proofs.frame_length.Goals as goal
 
 -- all that there are
 whole : silence 480 ≡ replicate 480 (of_bits binary32 0x0000_0000)
@@ -19,11 +18,14 @@ all : (n : ℕ) → 480 ≤ n → take 480 (silence 480) ≡ silence n
 unfolding silence
 all n h = first 480 ∙ whole ∙ sym (take_all n (replicate 480 (of_bits binary32 0x0000_0000)) h)
 
-returns : tie.Need-returns
-returns c = (c.if1.true, first _)
+pub returns-then-samples-le-SAMPLES : goal.returns-then-samples-le-SAMPLES
+returns-then-samples-le-SAMPLES c = record {
+  upper_bound = c.if-samples-le-SAMPLES.true;
+  silence_value = first _;
+}
 
-returns-2 : tie.Need-returns-2
-returns-2 c = (omega arith, all _ (omega (arith, c.if1.false)))
-
-pub frame-length-spec : {M : Type 1} → statement M
-frame-length-spec = tie.close (tie.spec returns returns-2)
+pub returns-else-samples-le-SAMPLES : goal.returns-else-samples-le-SAMPLES
+returns-else-samples-le-SAMPLES c = record {
+  upper_bound = omega arith;
+  silence_value = all _ (omega (arith, c.if-samples-le-SAMPLES.false));
+}

@@ -1,5 +1,5 @@
 -- `strip_run::finish` meets its contract. Assumes nothing.
-use Rattle.std.proofs.Common.{◌≡◌, ℕ, false, List, ◌++◌, length, drop, ap, ◌∙◌, rules}
+use Rattle.std.proofs.Common.{◌≡◌, ℕ, false, List, ◌++◌, length, drop, ap, ◌∙◌}
 use Rattle.strip_reader.specs.Reader.{Handed, finished}
 use Rattle.strip_reader.specs.Telling.{ended}
 use Rattle.strip_run.specs.Lines.{told}
@@ -7,17 +7,10 @@ use Rattle.strip_run.specs.Run.{stopped, run_of, line_of, line_out}
 use Rattle.strip_run.specs.declared.Line.{Line}
 use Rattle.strip_run.specs.declared.Run.{Run}
 use Rattle.strip_run.specs.declared.Taken.{Taken}
-use Rattle.strip_run.proofs.finish.Statement.{statement}
-use Rattle.strip_run.proofs.finish.Tie as tie
+use Rattle.strip_run.proofs.finish.Goals as goal
 
-finish-requires : tie.Need-finish-requires
-finish-requires c κs = search rules
-
-tell-requires : tie.Need-tell-requires
-tell-requires c κs = c.before.before.before.before.before.requires
-
-same_length : tie.Need-same-length
-same_length c = search rules
+pub tell-line-requires : goal.tell-line-requires
+tell-line-requires c = c.requires
 
 answer-is : (r : Run) (g : Handed) (line : Line) → g ≡ finished r.reader → line ≡ line_of (told r.desk g)
     → ◌≡◌ {A = Taken} (record { reply = 0; run = record { reader = r.reader; desk = record { chain = line.desk.chain; capacity = line.desk.capacity; number = line.desk.number; more = false; reply = line.desk.reply } }; length = line.length })
@@ -30,12 +23,12 @@ out-is : (r : Run) (g : Handed) (out end : List ℕ) → g ≡ finished r.reader
 unfolding ended
 out-is r g out end e h = h ∙ ap (λ (x : Handed). line_out (told r.desk x) out) e
 
-returns : tie.Need-returns
+pub returns : goal.returns
 returns c =
-    let tell = c.before.before.before.before.tell in
-    let finish = c.before.before.before.before.before.before.finish in
-    let a = c.before.before.before.before.before.before.before.before.before.before.args in
-    (answer-is a.run _ tell.result finish.ensures tell.ensures.0, out-is a.run _ a.out.now _ finish.ensures tell.ensures.1)
-
-pub finish_spec : {M : Type 1} → statement M
-finish_spec = tie.close (tie.spec finish-requires tell-requires same_length returns)
+    let tell = c.tell-line in
+    let finish = c.finish-got in
+    let a = c.args in
+    record {
+      value = answer-is a.run _ tell.result finish.ensures tell.ensures.value;
+      out_after = out-is a.run _ a.out.now _ finish.ensures tell.ensures.out_after;
+    }

@@ -1,0 +1,27 @@
+-- `strip_lines::hundredths_of` meets its contract: the fields of the magnitude's bits tell the hundredths. Assumes nothing.
+use mathlib.Core.Path.{sym, ◌∙◌}
+use native.Mathlib.Omega.{arith}
+use Rattle.floats.specs.Laws.Kinds.{passed}
+use Rattle.strip_lines.specs.Laws.Cutting.{cut}
+use Rattle.strip_lines.proofs.hundredths_of.Goals as goal
+
+pub overflow_sub-exponent : goal.overflow_sub-exponent
+overflow_sub-exponent c =
+    omega (arith, (cut c.args.x _ _ c.magnitude.ensures c.bits_of-bits.ensures (passed c.well_formed.0.1) c.requires).room)
+
+pub cut-requires : goal.cut-requires
+cut-requires c =
+    let room = (cut c.args.x _ _ c.magnitude.ensures c.bits_of-bits.ensures (passed c.well_formed.0.1) c.requires).room in
+    record {
+      places_nonzero = omega arith;
+      places_bound = omega arith;
+    }
+
+pub returns-then-exponent-lt119 : goal.returns-then-exponent-lt119
+returns-then-exponent-lt119 c =
+    sym ((cut c.args.x _ _ c.magnitude.ensures c.bits_of-bits.ensures (passed c.well_formed.0.1) c.requires).none c.if-exponent-lt119.true)
+
+pub returns-else-exponent-lt119 : goal.returns-else-exponent-lt119
+returns-else-exponent-lt119 c =
+    c.cut.ensures
+    ∙ sym ((cut c.args.x _ _ c.magnitude.ensures c.bits_of-bits.ensures (passed c.well_formed.0.1) c.requires).some c.if-exponent-lt119.false)
