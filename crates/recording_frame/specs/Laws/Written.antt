@@ -1,13 +1,13 @@
 -- Writing is never refused after the chain: what a step hands out is of full scale, and fits where it was read. Laws.
 -- Assumes nothing.
-use Rattle.std.specs.Prelude.{◌≡◌, refl, true, List, [], ◌∷◌, ◌++◌, ℕ, zero, suc, ◌+◌, ◌*◌, ◌-◌, ◌/◌, ◌%◌, T, eqb, ltb, pos, length, drop, Float}
+use Rattle.std.specs.Prelude.{◌≡◌, refl, true, List, [], ◌∷◌, ◌++◌, ℕ, zero, suc, ◌+◌, ◌*◌, ◌-◌, ◌/◌, ◌%◌, T, ltb, pos, length, drop, Float}
 use Rattle.std.proofs.Common.{sym, ◌∙◌, append-nil, le_of_eq, drop_of_length-le}
 use Rattle.std.proofs.Math.Path.{ap}
 use borrow.Author.Tests.{eqb-true}
 use Rattle.std.specs.Float.{nan, binary32}
-use Rattle.std.specs.Float.Ieee.{fits, of_bits, of_int, neg, le}
+use Rattle.std.specs.Float.Ieee.{fits, of_bits, of_int, le}
 use Rattle.std.specs.Float.Ieee.Bits.{is_true}
-use Rattle.std.specs.Float.Ieee.Fits.{of_int-fits, neg-fits, and_i}
+use Rattle.std.specs.Float.Ieee.Fits.{of_int-fits, neg-fits}
 use Rattle.rounding.specs.Laws.Exact.{constant_number}
 use Rattle.rounding.specs.Laws.Order.{units→le}
 use Rattle.lists.specs.Each.{Each}

@@ -1,0 +1,7 @@
+-- `recording_run::answer::of_metering` meets its contract. Assumes nothing.
+use Rattle.recording_run.specs.Answer.{meter_answer}
+use Rattle.recording_run.proofs.answer.of_metering.Goals as goal
+
+pub returns : goal.returns
+unfolding meter_answer
+returns c = rw c.all_well.ensures

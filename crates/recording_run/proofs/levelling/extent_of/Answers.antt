@@ -1,0 +1,7 @@
+-- `recording_run::levelling::extent_of` meets its contract. Assumes nothing.
+use Rattle.recording_run.specs.Levelling.{extent_of}
+use Rattle.recording_run.proofs.levelling.extent_of.Goals as goal
+
+pub returns : goal.returns
+unfolding extent_of
+returns c = rw (c.pick_usize.ensures, c.pick_u32.ensures, c.whole_groups-whole.ensures.value, c.is_unknown-known.ensures)
