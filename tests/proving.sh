@@ -8,23 +8,24 @@ room=$(mktemp -d) || exit 1
 trap 'rm -rf "$room"' EXIT
 
 # In place of `rt`: it says what `rt` says and leaves what `rt` leaves, and writes down its processes. Where the file `hangs` is
-# there it hangs, in three processes, one of them in a group of its own, and none ends when it is asked to.
+# there it hangs at the third crate, in three processes, one of them in a group of its own, and none ends when it is asked to.
 mkdir "$room/bin" "$room/temporary"
 cat >"$room/bin/rt" <<END
 #!/usr/bin/env bash
 trap '' INT TERM HUP
-echo \$\$ >>"$room/processes"
-echo "\$*" >"$room/asked"
-cat >"$room/read"
+name=\${PWD##*/}
+echo "\$name \$*" >>"$room/asked"
+cat >>"$room/read"
 mktemp -d >"$room/folder"
-echo "library lists: modules loaded=1 checked=0"
-echo "rt: a proved (unchanged since it was last proved)"
-echo "rt: a proved (unchanged since it was last proved)"
-echo "rt: other proved (1 s)"
-sleep 0.5
-printf 'rt: b pro'
-sleep 0.5
-echo 'ved (0 s)' >&2
+echo "library lists: modules loaded=1 checked=0" >&2
+if [ \$name = b ]; then
+    echo "proved: a"
+    printf 'logic=pro'
+    sleep 0.5
+    printf 'ved' >&2
+fi
+[ \$name = c ] || exit 0
+echo \$\$ >>"$room/processes"
 if [ -e "$room/hangs" ]; then
     sh -c 'echo \$\$ >>"$room/processes"; while :; do sleep 1; done' &
     set -m
@@ -33,10 +34,12 @@ if [ -e "$room/hangs" ]; then
 fi
 sleep 1000 &
 echo \$! >>"$room/processes"
-echo 'rt: target/staticlib/libc.a has the functions of c that are marked #[no_mangle] pub extern "C"'
+[ ! -e "$room/runs" ] || echo "rt: running out/c; to give it other input, run that file yourself" >&2
+echo "what the program writes"
 exit 7
 END
 chmod +x "$room/bin/rt"
+mkdir -p "$room"/crates/{a,b,c,other}
 printf '# NAME: DEP DEP ..\na:\nb: a\nc: b io\nother: c # a program\n' >"$room/crates.txt"
 cat >"$room/script" <<END
 set -u
@@ -44,7 +47,7 @@ cd "$room"
 . "$root/tools/proving.bash"
 trap 'echo "the caller ends with \$?" >&2' EXIT
 trap 'echo none' USR1
-prove_with_progress "$room/log" rt staticlib c
+prove_with_progress "$room/log" rt run c
 echo "status \$?"
 trap -p
 END
@@ -82,19 +85,26 @@ same "proving: without a name it is every crate" "a b c other " "$(behind)"
 bash "$room/script" >"$room/out" 2>"$room/err" <"$room/crates.txt"
 same "proving: each crate that is done is told once, with the count" "proved 1 of 3: a
 proved 2 of 3: b
-proved 3 of 3: c
 the caller ends with 0" "$(cat "$room/err")"
 same "proving: the status is that of rt, and the caller's traps are as they were" "status 7
 trap -- 'echo \"the caller ends with \$?\" >&2' EXIT
 trap -- 'echo none' SIGUSR1" "$(cat "$room/out")"
-same "proving: rt has its words, and nothing to read" "staticlib c|" "$(cat "$room/asked")|$(cat "$room/read")"
-same "proving: the log has all that rt said" "6" "$(wc -l <"$room/log" | tr -d ' ')"
+same "proving: rt has its words in each crate's folder, the lowest first, and nothing to read" "a lib|b lib|c run||" \
+    "$(tr '\n' '|' <"$room/asked")|$(cat "$room/read")"
+same "proving: the log has all that rt said, and not what the program writes" "7 0" \
+    "$(wc -l <"$room/log" | tr -d ' ') $(grep -c 'what the program writes' "$room/log")"
 same "proving: nothing is left of what rt has started, and of its temporary files" "0 of 2 processes, 0 files" "$(left)"
+: >"$room/runs"
+bash "$room/script" >"$room/out" 2>"$room/err"
+same "proving: a program that was built and run is done, however its run ends" "proved 3 of 3: c|status 0" \
+    "$(sed -n 3p "$room/err")|$(head -n 1 "$room/out")"
+rm "$room/runs"
+left >/dev/null
 
 cat >"$room/plain" <<END
 cd "$room"
 . "$root/tools/proving.bash"
-prove_with_progress "$room/log" rt staticlib c
+prove_with_progress "$room/log" rt lib c
 echo "\$? \$(trap -p)"
 END
 same "proving: a caller without traps has none after it" "7 " "$(bash "$room/plain" 2>/dev/null)"
@@ -116,7 +126,7 @@ for case in "INT group 130" "INT alone 130" "TERM group 143" "TERM alone 143" "H
     wait "$script"
     status=$?
     same "proving: after $signal to the script ($whom) nothing is left" \
-        "3 of 3 processes, 2 files; $due; 0 of 3 processes, 0 files" "$was; $status; $(left)"
+        "3 of 3 processes, 4 files; $due; 0 of 3 processes, 0 files" "$was; $status; $(left)"
     same "proving: and the caller's own end is run, and nothing else said" "proved 1 of 3: a
 proved 2 of 3: b
 the caller ends with $due" "$(cat "$room/out" "$room/err")"
