@@ -16,9 +16,9 @@ use wav_format::head::LONGEST_HEAD;
 // What stays the same from frame to frame: where the strip is read and the levelled file is written, the channels, the
 // samples of a channel, the mask, and the size that the file says of all samples.
 #[derive(Clone, Copy)]
-pub(crate) struct Desk<'a> {
-    pub strip: &'a File,
-    pub out: Outlet<'a>,
+pub(crate) struct Desk<'s, 'o> {
+    pub strip: &'s File,
+    pub out: Outlet<'o>,
     pub channels: usize,
     pub samples: usize,
     pub mask: u32,
@@ -44,7 +44,7 @@ struct Taken {
 // Draws what comes next out of the strip, and takes it for a frame of which so many bytes were heard.
 fn take_next(
     rt: &HostRuntime,
-    desk: Desk<'_>,
+    desk: Desk<'_, '_>,
     block: &mut [u8],
     bytes: &mut [u8],
     n: usize,
@@ -70,7 +70,7 @@ fn take_next(
 // the frame. A proved loop has to end, so it counts its turns down, from a number that no run uses up.
 fn with_record(
     rt: &HostRuntime,
-    desk: Desk<'_>,
+    desk: Desk<'_, '_>,
     block: &mut [u8],
     bytes: &mut [u8],
     n: usize,
@@ -99,7 +99,7 @@ fn with_record(
 // Reads the next frame, levels it and writes it; or ends the run.
 fn next_frame(
     rt: &HostRuntime,
-    desk: Desk<'_>,
+    desk: Desk<'_, '_>,
     block: &mut [u8],
     bytes: &mut [u8],
     both: Both,
@@ -121,7 +121,7 @@ fn next_frame(
 // run uses up.
 fn take_frames(
     rt: &HostRuntime,
-    desk: Desk<'_>,
+    desk: Desk<'_, '_>,
     block: &mut [u8],
     bytes: &mut [u8],
     both: Both,
@@ -140,7 +140,7 @@ fn take_frames(
 }
 
 // Takes all frames.
-fn take_all(rt: &HostRuntime, desk: Desk<'_>, block: &mut [u8], both: Both) -> Both {
+fn take_all(rt: &HostRuntime, desk: Desk<'_, '_>, block: &mut [u8], both: Both) -> Both {
     let mut bytes = room();
     let n = frame_bytes(desk.channels, desk.samples);
     take_frames(rt, desk, block, &mut bytes[..n], both)
@@ -148,7 +148,7 @@ fn take_all(rt: &HostRuntime, desk: Desk<'_>, block: &mut [u8], both: Both) -> B
 
 // Puts the head of a file that is named right, and answers whether that went well. Standard output keeps the head that it
 // has.
-fn right_head(rt: &HostRuntime, desk: Desk<'_>, run: Run) -> bool {
+fn right_head(rt: &HostRuntime, desk: Desk<'_, '_>, run: Run) -> bool {
     match desk.out {
         Outlet::Standard => true,
         Outlet::Named(file) => {
@@ -195,7 +195,7 @@ fn rest_of(rt: &HostRuntime, strip: &File, block: &mut [u8], both: Both) -> Rest
 
 // The end of a run that went well: it looks whether there is more behind the samples and in the strip, puts the head right
 // and settles the output.
-fn end_well(rt: &HostRuntime, desk: Desk<'_>, block: &mut [u8], both: Both) -> Answer {
+fn end_well(rt: &HostRuntime, desk: Desk<'_, '_>, block: &mut [u8], both: Both) -> Answer {
     let behind = look_behind(rt, desk.size);
     let rest = rest_of(rt, desk.strip, block, both);
     let run = rest.run;
@@ -207,7 +207,7 @@ fn end_well(rt: &HostRuntime, desk: Desk<'_>, block: &mut [u8], both: Both) -> A
 }
 
 // Levels all frames, and answers what is said at the end.
-pub(crate) fn level(rt: &HostRuntime, desk: Desk<'_>, block: &mut [u8], both: Both) -> Answer {
+pub(crate) fn level(rt: &HostRuntime, desk: Desk<'_, '_>, block: &mut [u8], both: Both) -> Answer {
     let last = take_all(rt, desk, block, both);
     let run = last.run;
     if run.well {
