@@ -2,7 +2,7 @@
 # The program `carry`, run from outside, and ./level carry, of one strip and of many.
 cd "$(dirname "$0")/.." || exit 1
 . tests/check.bash
-if [ ! -f target/bin/carry ]; then
+if [ ! -f crates/carry/out/carry ]; then
     echo "not ok carry: the program is built"
     exit 1
 fi

@@ -135,7 +135,7 @@ mkfifo "$room/pipe"
 program_of() { # the program below ./level of this number, once it is there
     local child
     for child in $(cat "/proc/$1/task/$1/children" 2>/dev/null); do
-        { tr "\0" "\n" <"/proc/$child/cmdline"; } 2>/dev/null | grep -q '/target/bin/' && echo "$child" && return
+        { tr "\0" "\n" <"/proc/$child/cmdline"; } 2>/dev/null | grep -q '/crates/strip/out/' && echo "$child" && return
     done
     return 1
 }
@@ -310,14 +310,14 @@ mkdir -p "$copy/tools" "$copy/tests" "$copy/examples" "$room/bin"
 cp level "$copy/"
 cp tools/*.bash tools/meter tools/strip-maker tools/ratio "$copy/tools/"
 cp tests/*.bash tests/run-program "$copy/tests/"
-cp -r crates crates.txt "$copy/"
-kit=$(dirname "$(dirname "$(readlink -f "$(command -v rt)")")")
-# The toolchain proves three crates, does as `mood` says, and builds the programs that are here.
+tar -c --exclude='crates/*/out' crates crates.txt | tar -x -C "$copy"
+# The toolchain proves three crates, does as `mood` says, and builds the program that is here.
 cat >"$room/bin/rt" <<'FAKE'
 #!/usr/bin/env bash
-echo "$*" >>rt.asked
-mkdir -p target/bin target/stamp
-for name in lists rounding floats; do echo "rt: $name proved (1 s)"; done
+name=${PWD##*/}
+cd ../..
+echo "$name $*" >>rt.asked
+for crate in lists rounding floats; do printf 'crate %s: modules loaded=1 checked=1\nlogic=proved functions=1\n' $crate >&2; done
 case $(cat rt.mood) in
 waits)
     # As a prover may: it does not hear the signal of a terminal.
@@ -326,32 +326,42 @@ waits)
     echo $! >rt.child
     wait
     ;;
-refuses)
-    cp "$(cat rt.from)/target/bin/"{strip,carry,recording,replay} target/bin/
-    exit 1
-    ;;
+refuses) exit 1 ;;
 *)
-    cp "$(cat rt.from)/target/bin/"{strip,carry,recording,replay} target/bin/
-    touch target/stamp/{strip,carry,recording,replay}
+    mkdir -p "crates/$name/out"
+    from=$(cat rt.from)/crates/$name/out/$name
+    [ "$(cat rt.mood) $name" != "errs strip" ] || from=/bin/true
+    cp "$from" "crates/$name/out/$name"
+    echo "rt: running out/$name; to give it other input, run that file yourself" >&2
+    # As a program may that is given nothing to read.
+    exit 1
     ;;
 esac
 FAKE
 chmod +x "$room/bin/rt"
 echo "$PWD" >"$copy/rt.from"
-there() { (cd "$room" && PATH=$room/bin:$PATH RATTLE_HOME=$kit "$copy/level" "$@") >"$room/got" 2>"$room/err"; ended=$?; }
-asked() { wc -l <"$copy/rt.asked" 2>/dev/null | tr -d ' '; }
+there() { (cd "$room" && PATH=$room/bin:$PATH "$copy/level" "$@") >"$room/got" 2>"$room/err"; ended=$?; }
+# How often the programs were asked for: the first of them, each time.
+asked() { grep -c '^strip run$' "$copy/rt.asked"; }
 echo refuses >"$copy/rt.mood"
 there strip "$room/nothing"
 same "level: a wrong word builds nothing" "2 no" "$ended $(yes_no test -e "$copy/rt.asked")"
 for try in first second; do
     there strip "$PWD/$service"
-    same "level: a program that did not pass its check, at the $try try: status 1 and no line of it" "1 0" "$ended $(wc -c <"$room/got" | tr -d ' ')"
+    same "level: a program that is not proved, at the $try try: status 1 and no line of it" "1 0" "$ended $(wc -c <"$room/got" | tr -d ' ')"
 done
 same "level: and it is tried again" 2 "$(asked)"
+echo errs >"$copy/rt.mood"
+for try in first second; do
+    there strip "$PWD/$service"
+    same "level: a program that does not write what is due, at the $try try: status 1, told, and no line of it" "1 0 1" \
+        "$ended $(wc -c <"$room/got" | tr -d ' ') $(grep -c "^level: .*/crates/strip/out/strip does not write what its file stdout has" "$room/err")"
+done
+same "level: and it is built again" 4 "$(asked)"
 echo waits >"$copy/rt.mood"
 for signal in TERM:143 INT:130; do
-    rm -f "$copy/rt.child"
-    (cd "$room" && PATH=$room/bin:$PATH RATTLE_HOME=$kit exec env --default-signal=INT setsid "$copy/level" build) >"$room/got" 2>"$room/err" &
+    rm -f "$copy/rt.child" "$copy/rt.asked"
+    (cd "$room" && PATH=$room/bin:$PATH exec env --default-signal=INT setsid "$copy/level" build) >"$room/got" 2>"$room/err" &
     level=$!
     within 10 test -s "$copy/rt.child"
     # As a terminal does, to the whole group.
@@ -365,7 +375,7 @@ rm "$copy/rt.asked"
 there strip "$PWD/$service"
 same "level: the first run builds and runs" 0 "$ended"
 same_file "level: the first run: its lines" examples/service.lines "$room/got"
-same "level: all programs are built at once" "check strip carry recording replay" "$(cat "$copy/rt.asked")"
+same "level: all programs are built" "strip run,carry run,recording run,replay run" "$(paste -sd, "$copy/rt.asked")"
 total=$(awk -F: '
     /^[^#]/ { deps[$1] = $2 }
     END {
@@ -376,22 +386,22 @@ total=$(awk -F: '
         }
         print all
     }' crates.txt)
-same "level: the first run says how far it is" "3 of $total floats" "$(sed -n 's/.*\b\(3 of [0-9]*\).*\b\(floats\).*/\1 \2/p' "$room/err" | tail -n 1)"
+same "level: the first run says how far it is" "3 of $total floats" "$(sed -n 's/^proved \(3 of [0-9]*\): \(floats\)$/\1 \2/p' "$room/err" | tail -n 1)"
 there ratio 20
 same "level: the second run builds nothing" "0 1" "$ended $(asked)"
 ln -s "$copy/level" "$room/link"
-(cd "$room" && PATH=$room/bin:$PATH RATTLE_HOME=$kit ./link strip "$OLDPWD/$service") >"$room/got" 2>/dev/null
+(cd "$room" && PATH=$room/bin:$PATH ./link strip "$OLDPWD/$service") >"$room/got" 2>/dev/null
 same_file "level: through a link" examples/service.lines "$room/got"
 touch "$copy/crates/strip/src/main.rt"
 there strip "$PWD/$service"
 same "level: a source that is newer is built again" "0 2" "$ended $(asked)"
-rm "$copy/target/bin/recording"
+rm "$copy/crates/recording/out/recording"
 there strip "$PWD/$service"
 same "level: a program that was taken away is built again" "0 3" "$ended $(asked)"
 if [ "$(id -u)" = 0 ] && setpriv --reuid=65534 --regid=65534 --clear-groups true 2>/dev/null; then
     chmod 711 "$room"
     chmod -R go+rX "$copy" "$room/bin"
-    as_nobody() { (cd / && PATH=$room/bin:$PATH RATTLE_HOME=$kit setpriv --reuid=65534 --regid=65534 --clear-groups "$copy/level" strip - <"$OLDPWD/$service") >"$room/got" 2>"$room/err"; ended=$?; }
+    as_nobody() { (cd / && PATH=$room/bin:$PATH setpriv --reuid=65534 --regid=65534 --clear-groups "$copy/level" strip - <"$OLDPWD/$service") >"$room/got" 2>"$room/err"; ended=$?; }
     as_nobody
     same "level: a clone that cannot be written, and is built: status 0" 0 "$ended"
     same_file "level: a clone that cannot be written, and is built: the lines" examples/service.lines "$room/got"

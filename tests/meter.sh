@@ -2,7 +2,7 @@
 # The meter, tools/meter: the records of the program that it reads, the figures that it makes of them, and how it is run.
 cd "$(dirname "$0")/.." || exit 1
 . tests/check.bash
-if [ ! -f target/bin/recording ]; then
+if [ ! -f crates/recording/out/recording ]; then
     echo "not ok meter: the program is built"
     exit 1
 fi

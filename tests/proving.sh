@@ -112,11 +112,6 @@ mkdir "$room/other-bin"
 cat >"$room/other-bin/rt" <<END
 #!/usr/bin/env bash
 echo "\$(basename "\$PWD") \$*" >>"$room/asked-each"
-if [ -e "$room/fails" ]; then
-    echo "crate a: modules loaded=1 checked=0"
-    echo "logic=not-proved"
-    exit 5
-fi
 echo "crate \$(basename "\$PWD"): modules loaded=1 checked=0"
 echo "logic=proved functions=1"
 END
@@ -139,7 +134,31 @@ proved 3 of 4: a
 proved 4 of 4: c
 status 0
 b check,other check" "$(several)"
+cat >"$room/other-bin/rt" <<END
+#!/usr/bin/env bash
+echo "crate \${PWD##*/}: modules loaded=1 checked=0" >&2
+[ ! -e "$room/fails" ] || { echo "logic=not-proved" >&2; exit 1; }
+echo "logic=proved functions=1" >&2
+echo "rt: running out/\${PWD##*/}; to give it other input, run that file yourself" >&2
+echo "what the program writes"
+exit 3
+END
+sed 's/rt check b other/rt run b other/; /asked-each/d' "$room/several" >"$room/runs"
+same "proving: programs that were built are run, and how they end is nothing here" "proved 1 of 4: b
+proved 2 of 4: other
+proved 3 of 4: a
+proved 4 of 4: c
+status 0 0" "$(bash "$room/runs" 2>&1) $(grep -c 'the program writes' "$room/log")"
 : >"$room/fails"
+same "proving: and one that is not proved ends it" "status 1" "$(bash "$room/runs" 2>&1)"
+rm "$room/fails"
+cat >"$room/other-bin/rt" <<END
+#!/usr/bin/env bash
+echo "\$(basename "\$PWD") \$*" >>"$room/asked-each"
+echo "crate a: modules loaded=1 checked=0"
+echo "logic=not-proved"
+exit 5
+END
 same "proving: after one that is not proved comes no other" "status 5
 b check" "$(several)"
 

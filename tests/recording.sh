@@ -2,7 +2,7 @@
 # The program `recording`, run from outside: levelling and metering; the meter, and the cough of examples/cough.
 cd "$(dirname "$0")/.." || exit 1
 . tests/check.bash
-if [ ! -f target/bin/recording ]; then
+if [ ! -f crates/recording/out/recording ]; then
     echo "not ok recording: the program is built"
     exit 1
 fi
@@ -651,9 +651,7 @@ closes() { # NAME TOLD DESCRIPTOR DUE WRITTEN WORDS..: what is due is written in
     local name=$1 told=$2 descriptor=$3 due=$4 written=$5
     shift 5
     python - "$descriptor" "$good" "$@" <<'CLOSES' >"$room/got" 2>"$room/err" 3>"$room/end"
-import ctypes, os, platform, shutil, struct, sys
-kit = os.environ.get("RATTLE_HOME") or os.path.dirname(os.path.dirname(os.path.realpath(shutil.which("rt"))))
-place = f"{kit}/on/x86_64/toolchain/lib"
+import ctypes, os, platform, struct, sys
 descriptor, source, words = int(sys.argv[1]), sys.argv[2], sys.argv[3:]
 # A filter of system calls: close of this descriptor fails with EIO, and all else goes through.
 code = [(0x20, 0, 0, 0), (0x15, 0, 3, 3), (0x20, 0, 0, 16), (0x15, 0, 1, descriptor), (0x06, 0, 0, 0x00050005), (0x06, 0, 0, 0x7FFF0000)]
@@ -663,8 +661,8 @@ libc = ctypes.CDLL(None, use_errno=True)
 os.dup2(os.open(source, os.O_RDONLY), 0)
 if platform.machine() != "x86_64" or libc.prctl(38, 1, 0, 0, 0) or libc.prctl(22, 2, program, 0, 0):
     sys.exit("not tried")
-start = [f"{place}/ld-linux-x86-64.so.2", "--library-path", place, "target/bin/recording"]
-os.execv(start[0], start + words)
+start = "crates/recording/out/recording"
+os.execv(start, [start] + words)
 CLOSES
     if [ "$(cat "$room/err")" = "not tried" ]; then
         echo "ok recording: $name: not tried, since this system does not filter its system calls"

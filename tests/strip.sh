@@ -2,7 +2,7 @@
 # The program `strip`, run from outside.
 cd "$(dirname "$0")/.." || exit 1
 . tests/check.bash
-if [ ! -f target/bin/strip ]; then
+if [ ! -f crates/strip/out/strip ]; then
     echo "not ok strip: the program is built"
     exit 1
 fi
@@ -158,7 +158,7 @@ live() { # STRIP BYTES: starts the program on a strip that descriptor 4 feeds, a
     exec 4>"$room/live"
     # The second begins when the program itself runs.
     for ((i = 0; i < 1000; i++)); do
-        if tr '\0' '\n' <"/proc/$program/cmdline" 2>/dev/null | grep -q 'target/bin/strip$'; then break; fi
+        if tr '\0' '\n' <"/proc/$program/cmdline" 2>/dev/null | grep -q 'crates/strip/out/strip$'; then break; fi
         sleep 0.01
     done
     head -c "$2" "$1" >&4

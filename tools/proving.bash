@@ -31,7 +31,8 @@ crates_behind() { # NAME..
 # Runs `rt VERB` in the folder of each crate NAME, one after the other, up to the first that fails; VERB may have flags in the same
 # word. It has a session of its own, nothing to read, and a folder of its own for what it writes in between; all that it says goes to
 # LOG. `rt` proves the crates that NAME uses as well, where they have changed since they were proved, and says nothing of one that
-# has not. Each crate that is done is told on standard error, the silent ones at the end: in one line that changes where that is a
+# has not. `rt run` proves and builds a program and then runs it: what that writes and how it ends is nothing here. Each crate that is
+# done is told on standard error, the silent ones at the end: in one line that changes where that is a
 # terminal, otherwise in a line each. Returns the status of `rt`. A signal that ends this shell meanwhile (INT, TERM, HUP: the status
 # is 130, 143, 129), and any other end, ends the session first; the caller's own traps are put back, and that for EXIT is run.
 prove_with_progress() { # LOG rt VERB NAME..
@@ -53,8 +54,14 @@ prove_with_progress() { # LOG rt VERB NAME..
     trap 'exit 143' TERM
     trap 'exit 129' HUP
     trap 'exit 131' QUIT
-    TMPDIR=$proving_room setsid bash -c 'for name in "${@:3}"; do (cd "crates/$name" && exec "$1" $2) || exit; done' prover "$@" \
-        >"$log" 2>&1 </dev/null &
+    TMPDIR=$proving_room setsid bash -c '
+        for name in "${@:4}"; do
+            if [ "$3" = run ]; then
+                (cd "crates/$name" && exec "$2" run) 2>&1 >/dev/null || grep -q "^rt: running out/$name;" "$1" || exit 1
+            else
+                (cd "crates/$name" && exec "$2" $3) || exit
+            fi
+        done' prover "$log" "$@" >>"$log" 2>&1 </dev/null &
     while [ "$running" = yes ]; do
         read -r -t 0.2 -u "$silence" _ || :
         # What was said last is read after the end.

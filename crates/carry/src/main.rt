@@ -15,6 +15,10 @@
 
 ghost use Rattle.io.specs.Counts.{IsPrefixLen};
 
+use std::fs;
+use std::fs::File;
+use std::io::Seek;
+use std::os::unix::fs::{FileExt, FileTypeExt};
 use strip_carry::{End, Run, Told, Way, end_of, told_of, way_of};
 use strip_format::Version;
 use units::replies::DONE;
@@ -24,6 +28,9 @@ const BLOCK: usize = 2048;
 
 // The largest offset.
 const LAST: u64 = 0x7fff_ffff_ffff_ffff;
+
+// The strip by its path. Who opens that opens standard input once more, at its start.
+const STRIP: &str = "/proc/self/fd/0";
 
 // The descriptor that the number is written to.
 const REPLY_FILENO: i32 = 3;
@@ -43,63 +50,58 @@ struct Gone {
     written: bool,
 }
 
-// Tells a text.
-fn tell(text: &[u8]) {
-    io::write_all(libc::STDERR_FILENO, text);
-}
-
 // Tells a number, and a text after it.
-fn tell_number(n: u64, after: &[u8]) {
-    io::print_decimal(libc::STDERR_FILENO, n);
-    tell(after);
+fn tell_number(rt: &HostRuntime, n: u64, after: &str) {
+    let _ = eprint!(rt; "{n}{after}");
 }
 
 // A place of the strip as an offset. No file is longer than 2^63 - 1 bytes, so no place is behind that.
-fn offset(place: u64) -> i64 {
-    if place <= LAST {
-        place as i64
-    } else {
-        LAST as i64
-    }
+fn offset(place: u64) -> u64 {
+    if place <= LAST { place } else { LAST }
 }
 
 // Reads a block that begins at a place of the strip. A read that fails is told.
-fn read_block(block: &mut [u8], place: u64) -> Filled
+fn read_block(rt: &HostRuntime, strip: &File, block: &mut [u8], place: u64) -> Filled
     ensures { IsPrefixLen result.n block.new }
 {
-    let got = libc::pread(libc::STDIN_FILENO, block, offset(place));
-    let n = io::count(got, block);
-    if got < 0 {
-        os::fail(b"carry: standard input");
+    match strip.read_at(block, offset(place)) {
+        Ok(n) => Filled { n, well: true },
+        Err(e) => {
+            outside::fail(rt, "carry: standard input", e);
+            Filled { n: 0, well: false }
+        }
     }
-    Filled { n, well: 0 <= got }
 }
 
 // Writes what a block put out, where that is asked for, and answers whether all went well. Where not, it is told.
-fn write(bytes: &[u8], reply: u32, writes: bool) -> bool {
+fn write(rt: &HostRuntime, bytes: &[u8], reply: u32, writes: bool) -> bool {
     if reply != DONE {
-        tell(b"carry: the bytes do not fit\n");
+        outside::tell(rt, "carry: the bytes do not fit\n");
         return false;
     }
     if !writes {
         return true;
     }
-    let written = io::write_all(libc::STDOUT_FILENO, bytes);
-    if !written {
-        os::fail(b"carry: standard output");
+    match rt.write_all(bytes) {
+        Ok(()) => true,
+        Err(e) => {
+            outside::fail(rt, "carry: standard output", e);
+            false
+        }
     }
-    written
 }
 
-// Closes standard output where all went well so far, and answers whether that does too. A close that fails is told as a
-// write is.
-fn close_output(well: bool) -> bool {
+// Settles standard output where all went well so far, and answers whether that does too. Where not, it is told as a write that
+// fails is.
+fn settle_output(rt: &HostRuntime, well: bool) -> bool {
     if well {
-        let closed = libc::close(libc::STDOUT_FILENO);
-        if closed < 0 {
-            os::fail(b"carry: standard output");
+        match outside::settle_output(rt) {
+            Ok(()) => true,
+            Err(e) => {
+                outside::fail(rt, "carry: standard output", e);
+                false
+            }
         }
-        0 <= closed
     } else {
         false
     }
@@ -107,7 +109,7 @@ fn close_output(well: bool) -> bool {
 
 // Reads the strip from its start to its end, and writes what it is carried to, where that is asked for. A proved loop has to
 // end, so it counts its turns down, from a number that no run uses up.
-fn go_through(from: Version, writes: bool) -> Gone {
+fn go_through(rt: &HostRuntime, strip: &File, from: Version, writes: bool) -> Gone {
     let mut block = [0u8; BLOCK];
     let mut out = io::large_buffer();
     let mut run = Run::new(from);
@@ -116,13 +118,13 @@ fn go_through(from: Version, writes: bool) -> Gone {
     let mut more = true;
     let mut turns = u64::MAX;
     while turns > 0 && more {
-        let filled = read_block(&mut block, run.place);
+        let filled = read_block(rt, strip, &mut block, run.place);
         let n = filled.n;
         read = filled.well;
         if read {
             let taken = run.take(&block[..n], &mut out);
             let length = taken.length;
-            written = write(&out[..length], taken.reply, writes);
+            written = write(rt, &out[..length], taken.reply, writes);
             run = taken.run;
             more = written & run.tally.more;
         } else {
@@ -134,18 +136,17 @@ fn go_through(from: Version, writes: bool) -> Gone {
 }
 
 // Writes the strip that was read first, and tells how that ended.
-fn write_strip(from: Version, first: Run) {
-    let gone = go_through(from, true);
+fn write_strip(rt: &HostRuntime, strip: &File, from: Version, first: Run) {
+    let gone = go_through(rt, strip, from, true);
     let second = gone.run;
-    let closed = close_output(gone.read & gone.written);
-    let end = end_of(first, second, gone.read, gone.written, closed);
+    let settled = settle_output(rt, gone.read & gone.written);
+    let end = end_of(first, second, gone.read, gone.written, settled);
     match end {
         End::Nothing => {}
-        End::Changed => {
-            tell(
-                b"carry: the strip changed while it was carried: what was written is not to be used\n",
-            )
-        }
+        End::Changed => outside::tell(
+            rt,
+            "carry: the strip changed while it was carried: what was written is not to be used\n",
+        ),
         End::Well => {
             io::print_decimal(REPLY_FILENO, DONE as u64);
         }
@@ -153,46 +154,81 @@ fn write_strip(from: Version, first: Run) {
 }
 
 // Judges a strip of this version, and writes it where nothing is refused.
-fn carry_from(from: Version) {
-    let gone = go_through(from, false);
+fn carry_from(rt: &HostRuntime, strip: &File, from: Version) {
+    let gone = go_through(rt, strip, from, false);
     let first = gone.run;
     let told = told_of(first, gone.read & gone.written);
     match told {
         Told::Nothing => {}
         Told::Size(n) => {
-            tell_number(n, b" bytes\n");
-            write_strip(from, first);
+            tell_number(rt, n, " bytes\n");
+            write_strip(rt, strip, from, first);
         }
         Told::Refused(reply, number) => {
-            tell_number(number, b" R ");
-            tell_number(reply as u64, b"\n");
+            tell_number(rt, number, " R ");
+            tell_number(rt, reply as u64, "\n");
             io::print_decimal(REPLY_FILENO, reply as u64);
         }
     }
 }
 
 // The way that the first word says, where there is one word.
-fn asked() -> Way {
+fn asked(rt: &HostRuntime) -> Way {
     let mut word = io::buffer();
-    if os::arg_count() == 2 {
-        let n = os::arg(1, &mut word);
+    if outside::word_count(rt) == 2 {
+        let n = outside::word(rt, 1, &mut word);
         way_of(&word[..n])
     } else {
         Way::None
     }
 }
 
-fn main() {
-    let way = asked();
-    if libc::lseek(libc::STDIN_FILENO, 0, libc::SEEK_CUR) < 0 {
-        tell(b"carry: standard input cannot be read twice: give a file, and no pipe\n");
-    } else {
-        match way {
-            Way::None => tell(
-                b"carry: it takes one word, up or back: carry up < OLD.strip > NEW.strip\n",
-            ),
-            Way::Up => carry_from(Version::One),
-            Way::Back => carry_from(Version::Two),
+// Whether standard input is something that can be opened once more and read from its start. A pipe and a socket are not: to open
+// one could wait for ever.
+fn is_kept(rt: &HostRuntime) -> bool {
+    match fs::metadata(rt, STRIP) {
+        Ok(known) => {
+            let kind = known.file_type();
+            !(kind.is_fifo() | kind.is_socket())
         }
+        Err(_) => false,
+    }
+}
+
+// A file that has places, and nothing in its stead where it has none, as a terminal has.
+fn with_places(mut file: File) -> Option<File> {
+    match file.stream_position() {
+        Ok(_) => Some(file),
+        Err(_) => None,
+    }
+}
+
+// Opens the strip, where it can be read twice.
+fn open_strip(rt: &HostRuntime) -> Option<File> {
+    if is_kept(rt) {
+        match fs::open(rt, STRIP) {
+            Ok(file) => with_places(file),
+            Err(_) => None,
+        }
+    } else {
+        None
+    }
+}
+
+fn main(rt: HostRuntime) {
+    let way = asked(&rt);
+    match open_strip(&rt) {
+        None => outside::tell(
+            &rt,
+            "carry: standard input cannot be read twice: give a file, and no pipe\n",
+        ),
+        Some(strip) => match way {
+            Way::None => outside::tell(
+                &rt,
+                "carry: it takes one word, up or back: carry up < OLD.strip > NEW.strip\n",
+            ),
+            Way::Up => carry_from(&rt, &strip, Version::One),
+            Way::Back => carry_from(&rt, &strip, Version::Two),
+        },
     }
 }

@@ -6,6 +6,15 @@ ghost use Rattle.io.specs.Counts.{IsPrefixLen};
 use crate::told;
 use recording_run::input::{Filled, after_read, empty};
 use recording_run::levelling::behind_bytes;
+use std::fs::File;
+use std::io::{Read, Result};
+
+// Where bytes are read from: standard input, or the strip.
+#[derive(Clone, Copy)]
+pub(crate) enum Inlet<'a> {
+    Standard,
+    Strip(&'a File),
+}
 
 // The most bytes that a frame has.
 const MOST_BYTES: usize = 7680;
@@ -25,16 +34,28 @@ pub(crate) fn within(n: usize, buffer: &[u8]) -> usize
     if n < buffer.len() { n } else { buffer.len() }
 }
 
+// Reads once, to the start of a buffer.
+fn read(rt: &HostRuntime, from: Inlet<'_>, buffer: &mut [u8]) -> Result<usize> {
+    match from {
+        Inlet::Standard => rt.stdin().read(buffer),
+        Inlet::Strip(file) => {
+            let mut strip = file;
+            strip.read(buffer)
+        }
+    }
+}
+
 // Reads once, behind the bytes that are filled. A read that fails is told.
-pub(crate) fn read_once(from: i32, buffer: &mut [u8], n: usize) -> Filled {
+pub(crate) fn read_once(rt: &HostRuntime, from: Inlet<'_>, buffer: &mut [u8], n: usize) -> Filled {
     let most = buffer.len();
     if n < most {
-        let rest = &mut buffer[n..];
-        let got = libc::read(from, rest);
-        if got < 0 {
-            told::unread(from);
+        match read(rt, from, &mut buffer[n..]) {
+            Ok(came) => after_read(n, came, false, most),
+            Err(e) => {
+                told::unread(rt, from, e);
+                after_read(n, 0, true, most)
+            }
         }
-        after_read(n, io::count(got, rest), got < 0, most)
     } else {
         after_read(n, 0, false, most)
     }
@@ -42,24 +63,29 @@ pub(crate) fn read_once(from: i32, buffer: &mut [u8], n: usize) -> Filled {
 
 // Reads until a buffer is full, the input ends or a read fails. A proved loop has to end, so it counts its
 // turns down, from a number that no run uses up.
-pub(crate) fn fill(from: i32, buffer: &mut [u8]) -> Filled {
+pub(crate) fn fill(rt: &HostRuntime, from: Inlet<'_>, buffer: &mut [u8]) -> Filled {
     let mut filled = empty(buffer.len());
     let mut turns = u64::MAX;
     while turns > 0 && filled.more {
-        filled = read_once(from, buffer, filled.n);
+        filled = read_once(rt, from, buffer, filled.n);
         turns -= 1;
     }
     filled
 }
 
 // The same for so many bytes of a buffer, and never more than it has.
-pub(crate) fn fill_some(from: i32, buffer: &mut [u8], most: usize) -> Filled {
+pub(crate) fn fill_some(
+    rt: &HostRuntime,
+    from: Inlet<'_>,
+    buffer: &mut [u8],
+    most: usize,
+) -> Filled {
     let n = within(most, buffer);
-    fill(from, &mut buffer[..n])
+    fill(rt, from, &mut buffer[..n])
 }
 
 // Looks behind samples whose chunk says this size.
-pub(crate) fn look_behind(size: u32) -> Filled {
+pub(crate) fn look_behind(rt: &HostRuntime, size: u32) -> Filled {
     let mut buffer = [0u8; 1];
-    fill_some(libc::STDIN_FILENO, &mut buffer, behind_bytes(size))
+    fill_some(rt, Inlet::Standard, &mut buffer, behind_bytes(size))
 }

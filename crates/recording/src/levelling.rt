@@ -1,7 +1,7 @@
 // The frames of the recording through the chain, one after the other.
 
-use crate::input::{fill_some, look_behind, room};
-use crate::output::{close, write, write_first};
+use crate::input::{Inlet, fill_some, look_behind, room};
+use crate::output::{Outlet, settle, write, write_first};
 use crate::strip::draw_next;
 use crate::told;
 use recording_run::answer::{Answer, of_run};
@@ -10,14 +10,15 @@ use recording_run::levelling::{
 };
 use recording_run::rest::{Rest, take_rest};
 use recording_run::strip::Source;
+use std::fs::File;
 use wav_format::head::LONGEST_HEAD;
 
 // What stays the same from frame to frame: where the strip is read and the levelled file is written, the channels, the
 // samples of a channel, the mask, and the size that the file says of all samples.
 #[derive(Clone, Copy)]
-pub(crate) struct Desk {
-    pub strip: i32,
-    pub out: i32,
+pub(crate) struct Desk<'s, 'o> {
+    pub strip: &'s File,
+    pub out: Outlet<'o>,
     pub channels: usize,
     pub samples: usize,
     pub mask: u32,
@@ -41,14 +42,21 @@ struct Taken {
 }
 
 // Draws what comes next out of the strip, and takes it for a frame of which so many bytes were heard.
-fn take_next(desk: Desk, block: &mut [u8], bytes: &mut [u8], n: usize, both: Both) -> Taken {
+fn take_next(
+    rt: &HostRuntime,
+    desk: Desk<'_, '_>,
+    block: &mut [u8],
+    bytes: &mut [u8],
+    n: usize,
+    both: Both,
+) -> Taken {
     let before = both.source;
     let heard = both.run;
-    let drawn = draw_next(desk.strip, block, before);
+    let drawn = draw_next(rt, desk.strip, block, before);
     let got = drawn.got;
     let turn = take_entry(heard, n, got, bytes, desk.channels, desk.samples);
     let told = turn.told;
-    told::of_run(told);
+    told::of_run(rt, told);
     let run = turn.run;
     let source = drawn.source;
     Taken {
@@ -60,7 +68,14 @@ fn take_next(desk: Desk, block: &mut [u8], bytes: &mut [u8], n: usize, both: Bot
 
 // Takes the gaps that the strip has before the figures of a frame, of which so many bytes were heard, and these, and writes
 // the frame. A proved loop has to end, so it counts its turns down, from a number that no run uses up.
-fn with_record(desk: Desk, block: &mut [u8], bytes: &mut [u8], n: usize, both: Both) -> Both {
+fn with_record(
+    rt: &HostRuntime,
+    desk: Desk<'_, '_>,
+    block: &mut [u8],
+    bytes: &mut [u8],
+    n: usize,
+    both: Both,
+) -> Both {
     let mut now = Taken {
         both,
         n: 0,
@@ -69,28 +84,34 @@ fn with_record(desk: Desk, block: &mut [u8], bytes: &mut [u8], n: usize, both: B
     let mut turns = u64::MAX;
     while turns > 0 && now.again {
         let before = now.both;
-        now = take_next(desk, block, bytes, n, before);
+        now = take_next(rt, desk, block, bytes, n, before);
         turns -= 1;
     }
     let last = now.both;
     let run = last.run;
     let source = last.source;
     Both {
-        run: after_write(run, write(desk.out, bytes, now.n)),
+        run: after_write(run, write(rt, desk.out, bytes, now.n)),
         source,
     }
 }
 
 // Reads the next frame, levels it and writes it; or ends the run.
-fn next_frame(desk: Desk, block: &mut [u8], bytes: &mut [u8], both: Both) -> Both {
+fn next_frame(
+    rt: &HostRuntime,
+    desk: Desk<'_, '_>,
+    block: &mut [u8],
+    bytes: &mut [u8],
+    both: Both,
+) -> Both {
     let run = both.run;
     let source = both.source;
-    let filled = fill_some(libc::STDIN_FILENO, bytes, run.left);
+    let filled = fill_some(rt, Inlet::Standard, bytes, run.left);
     let n = hear(bytes, filled.n, desk.channels);
     let heard = heard_run(run, n, filled.failed);
     let now = Both { run: heard, source };
     if heard.more {
-        with_record(desk, block, bytes, n, now)
+        with_record(rt, desk, block, bytes, n, now)
     } else {
         now
     }
@@ -98,13 +119,19 @@ fn next_frame(desk: Desk, block: &mut [u8], bytes: &mut [u8], both: Both) -> Bot
 
 // Takes the frames one after the other. A proved loop has to end, so it counts its turns down, from a number that no
 // run uses up.
-fn take_frames(desk: Desk, block: &mut [u8], bytes: &mut [u8], both: Both) -> Both {
+fn take_frames(
+    rt: &HostRuntime,
+    desk: Desk<'_, '_>,
+    block: &mut [u8],
+    bytes: &mut [u8],
+    both: Both,
+) -> Both {
     let mut now = both;
     let first = both.run;
     let mut more = first.more;
     let mut turns = u64::MAX;
     while turns > 0 && more {
-        now = next_frame(desk, block, bytes, now);
+        now = next_frame(rt, desk, block, bytes, now);
         let run = now.run;
         more = run.more;
         turns -= 1;
@@ -113,38 +140,39 @@ fn take_frames(desk: Desk, block: &mut [u8], bytes: &mut [u8], both: Both) -> Bo
 }
 
 // Takes all frames.
-fn take_all(desk: Desk, block: &mut [u8], both: Both) -> Both {
+fn take_all(rt: &HostRuntime, desk: Desk<'_, '_>, block: &mut [u8], both: Both) -> Both {
     let mut bytes = room();
     let n = frame_bytes(desk.channels, desk.samples);
-    take_frames(desk, block, &mut bytes[..n], both)
+    take_frames(rt, desk, block, &mut bytes[..n], both)
 }
 
 // Puts the head of a file that is named right, and answers whether that went well. Standard output keeps the head that it
 // has.
-fn right_head(desk: Desk, run: Run) -> bool {
-    if desk.out == libc::STDOUT_FILENO {
-        true
-    } else {
-        let mut head = [0u8; LONGEST_HEAD];
-        let n = put_right(
-            run,
-            desk.channels,
-            desk.samples,
-            desk.mask,
-            desk.size,
-            &mut head,
-        );
-        if 0 < n {
-            write_first(desk.out, &head, n)
-        } else {
-            true
+fn right_head(rt: &HostRuntime, desk: Desk<'_, '_>, run: Run) -> bool {
+    match desk.out {
+        Outlet::Standard => true,
+        Outlet::Named(file) => {
+            let mut head = [0u8; LONGEST_HEAD];
+            let n = put_right(
+                run,
+                desk.channels,
+                desk.samples,
+                desk.mask,
+                desk.size,
+                &mut head,
+            );
+            if 0 < n {
+                write_first(rt, file, &head, n)
+            } else {
+                true
+            }
         }
     }
 }
 
 // Takes the gaps that the strip has behind the last frame, and what comes then. A proved loop has to end, so it counts its
 // turns down, from a number that no run uses up.
-fn rest_of(strip: i32, block: &mut [u8], both: Both) -> Rest {
+fn rest_of(rt: &HostRuntime, strip: &File, block: &mut [u8], both: Both) -> Rest {
     let first = both.run;
     let mut source = both.source;
     let mut now = Rest {
@@ -155,7 +183,7 @@ fn rest_of(strip: i32, block: &mut [u8], both: Both) -> Rest {
     };
     let mut turns = u64::MAX;
     while turns > 0 && now.again {
-        let drawn = draw_next(strip, block, source);
+        let drawn = draw_next(rt, strip, block, source);
         source = drawn.source;
         let got = drawn.got;
         let run = now.run;
@@ -166,26 +194,26 @@ fn rest_of(strip: i32, block: &mut [u8], both: Both) -> Rest {
 }
 
 // The end of a run that went well: it looks whether there is more behind the samples and in the strip, puts the head right
-// and closes the output.
-fn end_well(desk: Desk, block: &mut [u8], both: Both) -> Answer {
-    let behind = look_behind(desk.size);
-    let rest = rest_of(desk.strip, block, both);
+// and settles the output.
+fn end_well(rt: &HostRuntime, desk: Desk<'_, '_>, block: &mut [u8], both: Both) -> Answer {
+    let behind = look_behind(rt, desk.size);
+    let rest = rest_of(rt, desk.strip, block, both);
     let run = rest.run;
     let told = told_at_end(run, desk.size, desk.channels, behind.n, rest.goes);
-    told::of_run(told);
-    let righted = right_head(desk, run);
-    let closed = close(desk.out, righted);
-    of_run(run, told, behind.failed | rest.failed, righted & closed)
+    told::of_run(rt, told);
+    let righted = right_head(rt, desk, run);
+    let settled = settle(rt, desk.out, righted);
+    of_run(run, told, behind.failed | rest.failed, righted & settled)
 }
 
 // Levels all frames, and answers what is said at the end.
-pub(crate) fn level(desk: Desk, block: &mut [u8], both: Both) -> Answer {
-    let last = take_all(desk, block, both);
+pub(crate) fn level(rt: &HostRuntime, desk: Desk<'_, '_>, block: &mut [u8], both: Both) -> Answer {
+    let last = take_all(rt, desk, block, both);
     let run = last.run;
     if run.well {
-        end_well(desk, block, last)
+        end_well(rt, desk, block, last)
     } else {
-        let closed = close(desk.out, false);
-        of_run(run, Told::Nothing, false, closed)
+        let settled = settle(rt, desk.out, false);
+        of_run(run, Told::Nothing, false, settled)
     }
 }

@@ -23,12 +23,14 @@ mod wave;
 
 use levelling::{Both, Desk, level};
 use metering::meter_samples;
-use output::write;
+use output::{outlet_of, write};
 use recording_run::answer::of_refusal;
 use recording_run::levelling::after_write;
 use recording_run::strip::Source;
 use recording_run::wave::{Search, Stage};
 use ring_word::{Asked, ring_asked};
+use std::fs::{File, OpenOptions};
+use std::io::Result;
 use std::num::{wrapping_add_usize, wrapping_sub_usize};
 use strip::draw_next;
 use strip_format::Head;
@@ -40,8 +42,8 @@ use wave::find;
 // What the command asks for: the strip, the number of the word that may name the output, and how many peaks the protector
 // remembers.
 #[derive(Clone, Copy)]
-struct Wish {
-    strip: i32,
+struct Wish<'a> {
+    strip: &'a File,
     output: usize,
     capacity: u32,
 }
@@ -49,7 +51,8 @@ struct Wish {
 // Levels the samples that were found, whose chunk says this size: the head of the levelled file, then the frames. The output
 // is opened once there is a head to write.
 fn with_samples(
-    wish: Wish,
+    rt: &HostRuntime,
+    wish: Wish<'_>,
     block: &mut [u8],
     source: Source,
     head: Head,
@@ -67,8 +70,8 @@ fn with_samples(
         &mut bytes,
     );
     if begun.reply == DONE {
-        let out = output::open(wish.output);
-        if 0 <= out {
+        if let Some(output) = output::open(rt, wish.output) {
+            let out = outlet_of(&output);
             let desk = Desk {
                 strip: wish.strip,
                 out,
@@ -78,29 +81,29 @@ fn with_samples(
                 size,
             };
             let first = begun.run;
-            let run = after_write(first, write(out, &bytes, begun.head));
+            let run = after_write(first, write(rt, out, &bytes, begun.head));
             let both = Both { run, source };
-            told::at_end(level(desk, block, both));
+            told::at_end(level(rt, desk, block, both));
         }
     } else if begun.reply == SHAPE {
-        told::samples_differ(head.samples, search.samples);
+        told::samples_differ(rt, head.samples, search.samples);
     } else {
-        told::refused(begun.reply, 0);
+        told::refused(rt, begun.reply, 0);
         told::at_end(of_refusal(begun.reply));
     }
 }
 
 // Levels the samples that were found with a strip. The first that comes out of it is its head, or a refusal, or nothing
 // where a read failed, which was told.
-fn with_strip(wish: Wish, search: Search, size: u32) {
+fn with_strip(rt: &HostRuntime, wish: Wish<'_>, search: Search, size: u32) {
     let mut block = io::buffer();
-    let drawn = draw_next(wish.strip, &mut block, recording_run::strip::begin());
+    let drawn = draw_next(rt, wish.strip, &mut block, recording_run::strip::begin());
     let got = drawn.got;
     let source = drawn.source;
     match got {
-        Got::Head(head) => with_samples(wish, &mut block, source, head, search, size),
+        Got::Head(head) => with_samples(rt, wish, &mut block, source, head, search, size),
         Got::Refused(reply) => {
-            told::refused(reply, 0);
+            told::refused(rt, reply, 0);
             told::at_end(of_refusal(reply));
         }
         Got::More | Got::Record(_) | Got::Gap | Got::End => {}
@@ -109,74 +112,75 @@ fn with_strip(wish: Wish, search: Search, size: u32) {
 
 // Levels the recording. A search that is over has found samples, or is told. It comes before the first look at the strip, which
 // a meter may still be making of the same sound.
-fn with_sound(wish: Wish) {
-    let search = find();
+fn with_sound(rt: &HostRuntime, wish: Wish<'_>) {
+    let search = find(rt);
     let stage = search.stage;
     match stage {
         Stage::Start | Stage::Chunk | Stage::Format(_) | Stage::Skip(_) => {}
-        Stage::Samples(size) => with_strip(wish, search, size),
-        Stage::Over(fault) => told::of_search(fault),
+        Stage::Samples(size) => with_strip(rt, wish, search, size),
+        Stage::Over(fault) => told::of_search(rt, fault),
     }
 }
 
-// Opens the strip that the word of this number names. Where that fails the answer is below 0.
-fn open_strip(word: usize) -> i32 {
-    let mut path = io::buffer();
-    let n = os::arg(word, &mut path);
-    if os::errno() == 0 {
-        os::open_read(&path[..n])
-    } else {
-        -1
-    }
+// Opens the strip that the word of this number names.
+fn open_strip(rt: &HostRuntime, word: usize) -> Result<File> {
+    let mut how = OpenOptions::new();
+    how.read(true);
+    outside::open_word(rt, word, &how)
 }
 
 // Meters the recording. A search that is over has found samples, or is told.
-fn without_strip() {
-    let search = find();
+fn without_strip(rt: &HostRuntime) {
+    let search = find(rt);
     let stage = search.stage;
     match stage {
         Stage::Start | Stage::Chunk | Stage::Format(_) | Stage::Skip(_) => {}
-        Stage::Samples(size) => told::at_end(meter_samples(search, size)),
-        Stage::Over(fault) => told::of_search(fault),
+        Stage::Samples(size) => told::at_end(meter_samples(rt, search, size)),
+        Stage::Over(fault) => told::of_search(rt, fault),
     }
 }
 
 // What the words ask for of the ring.
-fn asked() -> Asked {
+fn asked(rt: &HostRuntime) -> Asked {
     let mut first = io::buffer();
     let mut second = io::buffer();
-    let n = os::arg(1, &mut first);
-    let m = os::arg(2, &mut second);
+    let n = outside::word(rt, 1, &mut first);
+    let m = outside::word(rt, 2, &mut second);
     ring_asked(&first[..n], &second[..m])
 }
 
 // Levels the recording with the strip that the word of this number names. The word after it may name the output.
-fn with_words(from: usize, capacity: u32) {
-    let strip = open_strip(from);
-    if 0 <= strip {
-        with_sound(Wish {
-            strip,
-            output: wrapping_add_usize(from, 1),
-            capacity,
-        });
-    } else {
-        os::fail(b"recording: the strip");
+fn with_words(rt: &HostRuntime, from: usize, capacity: u32) {
+    match open_strip(rt, from) {
+        Ok(file) => {
+            let strip = &file;
+            with_sound(
+                rt,
+                Wish {
+                    strip,
+                    output: wrapping_add_usize(from, 1),
+                    capacity,
+                },
+            );
+        }
+        Err(e) => outside::fail(rt, "recording: the strip", e),
     }
 }
 
-fn main() {
-    let count = os::arg_count();
-    let ring = asked();
+fn main(rt: HostRuntime) {
+    let count = outside::word_count(&rt);
+    let ring = asked(&rt);
     let behind = wrapping_sub_usize(count, ring.from);
     if count <= 1 {
-        without_strip();
+        without_strip(&rt);
     } else if !ring.ok {
-        told::tell(b"recording: --ring wants a number from 1 to 16\n");
+        outside::tell(&rt, "recording: --ring wants a number from 1 to 16\n");
     } else if (behind == 1) | (behind == 2) {
-        with_words(ring.from, ring.capacity);
+        with_words(&rt, ring.from, ring.capacity);
     } else {
-        told::tell(
-            b"recording: it takes the path of a strip, and may take that of the levelled file: recording [--ring N] STRIP [OUT] < in.wav\n",
+        outside::tell(
+            &rt,
+            "recording: it takes the path of a strip, and may take that of the levelled file: recording [--ring N] STRIP [OUT] < in.wav\n",
         );
     }
 }

@@ -1,7 +1,7 @@
 // The metering of a recording, 10 ms after the other, to standard output.
 
-use crate::input::{fill_some, look_behind, room};
-use crate::output::{close, write};
+use crate::input::{Inlet, fill_some, look_behind, room};
+use crate::output::{Outlet, settle, write};
 use crate::told;
 use loudness::{FORMAT_BYTES, RECORD_BYTES};
 use recording_run::answer::{Answer, of_metering};
@@ -10,20 +10,33 @@ use recording_run::metering::{Meter, after_write, begin, heard_meter, meter_soun
 use recording_run::wave::Search;
 
 // Meters 10 ms of which so many bytes were heard, and writes how loud they are.
-fn with_sound(channels: usize, samples: usize, bytes: &mut [u8], n: usize, meter: Meter) -> Meter {
+fn with_sound(
+    rt: &HostRuntime,
+    channels: usize,
+    samples: usize,
+    bytes: &mut [u8],
+    n: usize,
+    meter: Meter,
+) -> Meter {
     let mut out = [0u8; RECORD_BYTES];
     let turn = meter_sound(meter, n, bytes, channels, samples, &mut out);
     let next = turn.meter;
-    after_write(next, write(libc::STDOUT_FILENO, &out, turn.n))
+    after_write(next, write(rt, Outlet::Standard, &out, turn.n))
 }
 
 // Reads the next 10 ms and meters them; or ends the metering.
-fn next_sound(channels: usize, samples: usize, bytes: &mut [u8], meter: Meter) -> Meter {
-    let filled = fill_some(libc::STDIN_FILENO, bytes, meter.left);
+fn next_sound(
+    rt: &HostRuntime,
+    channels: usize,
+    samples: usize,
+    bytes: &mut [u8],
+    meter: Meter,
+) -> Meter {
+    let filled = fill_some(rt, Inlet::Standard, bytes, meter.left);
     let n = hear(bytes, filled.n, channels);
     let heard = heard_meter(meter, n, filled.failed);
     if heard.more {
-        with_sound(channels, samples, bytes, n, heard)
+        with_sound(rt, channels, samples, bytes, n, heard)
     } else {
         heard
     }
@@ -31,45 +44,51 @@ fn next_sound(channels: usize, samples: usize, bytes: &mut [u8], meter: Meter) -
 
 // Meters all, 10 ms after the other. A proved loop has to end, so it counts its turns down, from a number that no metering
 // uses up.
-fn take_sounds(channels: usize, samples: usize, bytes: &mut [u8], meter: Meter) -> Meter {
+fn take_sounds(
+    rt: &HostRuntime,
+    channels: usize,
+    samples: usize,
+    bytes: &mut [u8],
+    meter: Meter,
+) -> Meter {
     let mut now = meter;
     let mut turns = u64::MAX;
     while turns > 0 && now.more {
-        now = next_sound(channels, samples, bytes, now);
+        now = next_sound(rt, channels, samples, bytes, now);
         turns -= 1;
     }
     now
 }
 
 // The same with room for 10 ms.
-fn take_all(channels: usize, samples: usize, meter: Meter) -> Meter {
+fn take_all(rt: &HostRuntime, channels: usize, samples: usize, meter: Meter) -> Meter {
     let mut bytes = room();
     let n = frame_bytes(channels, samples);
-    take_sounds(channels, samples, &mut bytes[..n], meter)
+    take_sounds(rt, channels, samples, &mut bytes[..n], meter)
 }
 
-// The end of a metering that went well: it looks whether there is more behind the samples, and closes the output.
-fn end_well(channels: usize, size: u32, meter: Meter) -> Answer {
-    let behind = look_behind(size);
+// The end of a metering that went well: it looks whether there is more behind the samples, and settles the output.
+fn end_well(rt: &HostRuntime, channels: usize, size: u32, meter: Meter) -> Answer {
+    let behind = look_behind(rt, size);
     let told = told_at_end(meter, size, channels, behind.n);
-    told::of_run(told);
-    let closed = close(libc::STDOUT_FILENO, true);
-    of_metering(meter, told, behind.failed, closed)
+    told::of_run(rt, told);
+    let settled = settle(rt, Outlet::Standard, true);
+    of_metering(meter, told, behind.failed, settled)
 }
 
 // Meters the samples that were found, whose chunk says this size, and answers what is said at the end.
-pub(crate) fn meter_samples(search: Search, size: u32) -> Answer {
+pub(crate) fn meter_samples(rt: &HostRuntime, search: Search, size: u32) -> Answer {
     let mut out = [0u8; FORMAT_BYTES];
     let channels = search.channels;
     let samples = search.samples;
     let begun = begin(channels, samples, size, &mut out);
     let first = begun.meter;
-    let meter = after_write(first, write(libc::STDOUT_FILENO, &out, begun.n));
-    let last = take_all(channels, samples, meter);
+    let meter = after_write(first, write(rt, Outlet::Standard, &out, begun.n));
+    let last = take_all(rt, channels, samples, meter);
     if last.well {
-        end_well(channels, size, last)
+        end_well(rt, channels, size, last)
     } else {
-        let closed = close(libc::STDOUT_FILENO, false);
-        of_metering(last, Told::Nothing, false, closed)
+        let settled = settle(rt, Outlet::Standard, false);
+        of_metering(last, Told::Nothing, false, settled)
     }
 }

@@ -2,62 +2,126 @@
 
 use crate::input::within;
 use crate::told;
+use std::fs::{File, OpenOptions};
+use std::io::{Result, Seek, SeekFrom, Write};
+use std::os::fd::AsRawFd;
 
-// Opens the file that the word of this number names, for the bytes that are to come in the place of its own. Where that
-// fails it is told, and the answer is below 0.
-fn open_named(word: usize) -> i32 {
-    let mut path = io::buffer();
-    let n = os::arg(word, &mut path);
-    if os::errno() == 0 {
-        os::open_overwrite(&path[..n])
-    } else {
-        -1
+// The output that was opened.
+#[derive(Drop)]
+pub(crate) enum Output {
+    Standard,
+    Named(File),
+}
+
+// Where bytes are written to.
+#[derive(Clone, Copy)]
+pub(crate) enum Outlet<'a> {
+    Standard,
+    Named(&'a File),
+}
+
+// The number of standard error.
+const STDERR_FILENO: i32 = 2;
+
+// Where the output takes bytes.
+pub(crate) fn outlet_of(output: &Output) -> Outlet<'_> {
+    match output {
+        Output::Standard => Outlet::Standard,
+        Output::Named(file) => Outlet::Named(file),
     }
 }
 
-// Opens the output: the file that the word of this number names, or standard output where there is no such word. A program
-// that was started without standard error would write into the file what it tells, so it takes no file in the place of that.
-pub(crate) fn open(word: usize) -> i32 {
-    if word < os::arg_count() {
-        let out = open_named(word);
-        if out < 0 {
-            os::fail(b"recording: the output");
-            out
-        } else if out <= libc::STDERR_FILENO {
-            libc::close(out);
-            -1
-        } else {
-            out
+// Opens the file that the word of this number names, for the bytes that are to come in the place of its own.
+fn open_named(rt: &HostRuntime, word: usize) -> Result<File> {
+    let mut how = OpenOptions::new();
+    how.write(true).create(true).truncate(true);
+    outside::open_word(rt, word, &how)
+}
+
+// A file that was opened. A program that was started without standard error would write into the file what it tells, so it takes
+// no file in the place of that.
+fn taken(file: File) -> Option<Output> {
+    if file.as_raw_fd() <= STDERR_FILENO {
+        None
+    } else {
+        Some(Output::Named(file))
+    }
+}
+
+// Opens the output: the file that the word of this number names, or standard output where there is no such word. Where that
+// fails it is told, and there is none.
+pub(crate) fn open(rt: &HostRuntime, word: usize) -> Option<Output> {
+    if word < outside::word_count(rt) {
+        match open_named(rt, word) {
+            Ok(file) => taken(file),
+            Err(e) => {
+                outside::fail(rt, "recording: the output", e);
+                None
+            }
         }
     } else {
-        libc::STDOUT_FILENO
+        Some(Output::Standard)
+    }
+}
+
+// Writes all bytes.
+fn write_all(rt: &HostRuntime, out: Outlet<'_>, bytes: &[u8]) -> Result<()> {
+    match out {
+        Outlet::Standard => rt.write_all(bytes),
+        Outlet::Named(file) => {
+            let mut named = file;
+            named.write_all(bytes)
+        }
     }
 }
 
 // Writes so many bytes, and answers whether that went well. Where not, it is told.
-pub(crate) fn write(out: i32, bytes: &[u8], n: usize) -> bool {
+pub(crate) fn write(rt: &HostRuntime, out: Outlet<'_>, bytes: &[u8], n: usize) -> bool {
     let m = within(n, bytes);
-    let written = io::write_all(out, &bytes[..m]);
-    if !written {
-        told::unwritten(out);
+    match write_all(rt, out, &bytes[..m]) {
+        Ok(()) => true,
+        Err(e) => {
+            told::unwritten(rt, out, e);
+            false
+        }
     }
-    written
+}
+
+// Whether the next bytes go to the start of a file. What cannot be sought, as a pipe, has none.
+fn is_at_start(file: &File) -> bool {
+    let mut named = file;
+    match named.seek(SeekFrom::Start(0)) {
+        Ok(at) => at == 0,
+        Err(_) => false,
+    }
 }
 
 // Writes so many bytes over the first ones of a file. What cannot be sought, as a pipe, stays as it is.
-pub(crate) fn write_first(out: i32, bytes: &[u8], n: usize) -> bool {
-    if libc::lseek(out, 0, libc::SEEK_SET) == 0 {
-        write(out, bytes, n)
+pub(crate) fn write_first(rt: &HostRuntime, file: &File, bytes: &[u8], n: usize) -> bool {
+    if is_at_start(file) {
+        write(rt, Outlet::Named(file), bytes, n)
     } else {
         true
     }
 }
 
-// Closes the output, and answers whether that went well. Where not, it is told; unless a write failed before, which was told.
-pub(crate) fn close(out: i32, well: bool) -> bool {
-    let closed = 0 <= libc::close(out);
-    if well & !closed {
-        told::unwritten(out);
+// Settles the output.
+fn settle_all(rt: &HostRuntime, out: Outlet<'_>) -> Result<()> {
+    match out {
+        Outlet::Standard => outside::settle_output(rt),
+        Outlet::Named(file) => outside::settle_file(file),
     }
-    closed
+}
+
+// Settles the output, and answers whether that went well. Where not, it is told; unless a write failed before, which was told.
+pub(crate) fn settle(rt: &HostRuntime, out: Outlet<'_>, well: bool) -> bool {
+    match settle_all(rt, out) {
+        Ok(()) => true,
+        Err(e) => {
+            if well {
+                told::unwritten(rt, out, e);
+            }
+            false
+        }
+    }
 }

@@ -1,16 +1,17 @@
 // The strip, read block by block.
 
-use crate::input::read_once;
+use crate::input::{Inlet, read_once};
 use recording_run::strip::{Drawn, Source, draw, refill};
+use std::fs::File;
 
 // Draws what comes next out of the strip: reads blocks until something does, the strip ends or a read fails. Each block is
 // what one read brings, so that a strip that is still being written is taken as it comes. A proved loop has to end, so it
 // counts its turns down, from a number that no run uses up.
-pub(crate) fn draw_next(strip: i32, block: &mut [u8], source: Source) -> Drawn {
+pub(crate) fn draw_next(rt: &HostRuntime, strip: &File, block: &mut [u8], source: Source) -> Drawn {
     let mut now = draw(source, block);
     let mut turns = u64::MAX;
     while turns > 0 && now.more {
-        let came = read_once(strip, block, 0);
+        let came = read_once(rt, Inlet::Strip(strip), block, 0);
         let before = now.source;
         now = refill(before, block, came.n, came.failed);
         turns -= 1;

@@ -1,24 +1,24 @@
 // The WAV file on standard input, up to its samples.
 
-use crate::input::{fill_some, within};
+use crate::input::{Inlet, fill_some, within};
 use recording_run::wave::{Search, begin, goes_on, take_bytes, wanted_bytes};
 
 // Reads the bytes that the search asks for, and goes on with them.
-fn search_once(search: Search) -> Search {
+fn search_once(rt: &HostRuntime, search: Search) -> Search {
     let mut buffer = io::buffer();
     let stage = search.stage;
-    let filled = fill_some(libc::STDIN_FILENO, &mut buffer, wanted_bytes(stage));
+    let filled = fill_some(rt, Inlet::Standard, &mut buffer, wanted_bytes(stage));
     let n = within(filled.n, &buffer);
     take_bytes(search, &buffer[..n], filled.failed)
 }
 
 // Searches for the samples. A proved loop has to end, so it counts its turns down, from a number that no run uses up.
-pub(crate) fn find() -> Search {
+pub(crate) fn find(rt: &HostRuntime) -> Search {
     let mut now = begin();
     let mut more = true;
     let mut turns = u64::MAX;
     while turns > 0 && more {
-        now = search_once(now);
+        now = search_once(rt, now);
         let stage = now.stage;
         more = goes_on(stage);
         turns -= 1;

@@ -25,6 +25,7 @@ ghost use Rattle.io.specs.Counts.{IsPrefixLen};
 
 use figures::Desk;
 use lines::Out;
+use std::io::Read;
 
 // A line of 3,900 figures with its name. A longer one is no question.
 const LONGEST_LINE: usize = 35200;
@@ -51,10 +52,10 @@ fn within(n: usize, buffer: &[u8]) -> usize
     if n <= buffer.len() { n } else { buffer.len() }
 }
 
-// Writes the first bytes of a buffer.
-fn write(out: &[u8], n: usize) {
+// Writes the first bytes of a buffer. Where that fails, nothing comes of it.
+fn write(rt: &HostRuntime, out: &[u8], n: usize) {
     let m = within(n, out);
-    io::write_all(libc::STDOUT_FILENO, &out[..m]);
+    let _ = rt.write_all(&out[..m]);
 }
 
 // Keeps one more byte of a line, where there is room, and answers how many are kept then: a line that
@@ -70,25 +71,39 @@ fn keep(line: &mut Line, kept: usize, byte: u8) -> usize {
 
 // The place for one more answer, behind those that wait. Where it might not fit there, those that wait
 // are written first.
-fn place(out: &Out, waiting: usize) -> usize {
+fn place(rt: &HostRuntime, out: &Out, waiting: usize) -> usize {
     if waiting < ENOUGH {
         waiting
     } else {
-        write(out, waiting);
+        write(rt, out, waiting);
         0
     }
 }
 
 // Answers the line that is kept, behind the answers that wait, and answers how many bytes wait then.
-fn reply(line: &[u8], kept: usize, desk: &mut Desk, out: &mut Out, waiting: usize) -> usize {
+fn reply(
+    rt: &HostRuntime,
+    line: &[u8],
+    kept: usize,
+    desk: &mut Desk,
+    out: &mut Out,
+    waiting: usize,
+) -> usize {
     let n = within(kept, line);
-    let at = place(out, waiting);
+    let at = place(rt, out, waiting);
     desk::answer(&line[..n], desk, out, at)
 }
 
 // Takes the bytes that were read, one after the other: a line feed ends the line, which is answered,
 // and any other byte is kept. There may be more to read where some came.
-fn feed(input: &[u8], line: &mut Line, desk: &mut Desk, out: &mut Out, run: Run) -> Run {
+fn feed(
+    rt: &HostRuntime,
+    input: &[u8],
+    line: &mut Line,
+    desk: &mut Desk,
+    out: &mut Out,
+    run: Run,
+) -> Run {
     let mut kept = run.kept;
     let mut waiting = run.waiting;
     let mut i = 0;
@@ -96,7 +111,7 @@ fn feed(input: &[u8], line: &mut Line, desk: &mut Desk, out: &mut Out, run: Run)
         let byte = input[i];
         i += 1;
         if byte == b'\n' {
-            waiting = reply(line, kept, desk, out, waiting);
+            waiting = reply(rt, line, kept, desk, out, waiting);
             kept = 0;
         } else {
             kept = keep(line, kept, byte);
@@ -110,16 +125,15 @@ fn feed(input: &[u8], line: &mut Line, desk: &mut Desk, out: &mut Out, run: Run)
 }
 
 // Reads once, and goes over what came: nothing, at the end of the input and where a read fails.
-fn turn(line: &mut Line, desk: &mut Desk, out: &mut Out, run: Run) -> Run {
+fn turn(rt: &HostRuntime, line: &mut Line, desk: &mut Desk, out: &mut Out, run: Run) -> Run {
     let mut input = io::large_buffer();
-    let got = libc::read(libc::STDIN_FILENO, &mut input);
-    let n = io::count(got, &input);
-    feed(&input[..n], line, desk, out, run)
+    let n = rt.stdin().read(&mut input).unwrap_or(0);
+    feed(rt, &input[..n], line, desk, out, run)
 }
 
 // Reads to the end. A proved loop has to end, and nothing says that the input does: so the loop
 // counts its turns down, from a number that no run uses up.
-fn read_all(line: &mut Line, desk: &mut Desk, out: &mut Out) -> Run {
+fn read_all(rt: &HostRuntime, line: &mut Line, desk: &mut Desk, out: &mut Out) -> Run {
     let mut run = Run {
         kept: 0,
         waiting: 0,
@@ -127,7 +141,7 @@ fn read_all(line: &mut Line, desk: &mut Desk, out: &mut Out) -> Run {
     };
     let mut turns = u64::MAX;
     while turns > 0 && run.more {
-        run = turn(line, desk, out, run);
+        run = turn(rt, line, desk, out, run);
         turns -= 1;
     }
     run
@@ -135,15 +149,15 @@ fn read_all(line: &mut Line, desk: &mut Desk, out: &mut Out) -> Run {
 
 // Writes the answers that still wait. A line that has begun and was cut is no question: the question mark is
 // put behind them in any case, and written where there is such a line.
-fn finish(out: &mut Out, kept: usize, waiting: usize) {
+fn finish(rt: &HostRuntime, out: &mut Out, kept: usize, waiting: usize) {
     let cut = lines::end(out, waiting, waiting);
-    write(out, numbers::pick(0 < kept, cut, waiting));
+    write(rt, out, numbers::pick(0 < kept, cut, waiting));
 }
 
-fn main() {
+fn main(rt: HostRuntime) {
     let mut line = [0u8; LONGEST_LINE];
     let mut desk = [0u32; figures::FIGURES];
     let mut out = io::large_buffer();
-    let run = read_all(&mut line, &mut desk, &mut out);
-    finish(&mut out, run.kept, run.waiting);
+    let run = read_all(&rt, &mut line, &mut desk, &mut out);
+    finish(&rt, &mut out, run.kept, run.waiting);
 }

@@ -14,6 +14,7 @@ mod sound;
 ghost use Rattle.std.specs.Prelude.{◌≤◌};
 
 use parts::{Ask, Outcome};
+use std::io::Read;
 
 // The bytes of a line, with its line feed.
 const LINE: usize = 45;
@@ -52,17 +53,17 @@ fn outcome(part: u32, sound: u32, channels: usize, samples: usize, frames: u32) 
     )
 }
 
-// Writes the answer to a line.
-fn write(outcome: Outcome) {
+// Writes the answer to a line. Where that fails, nothing comes of it.
+fn write(rt: &HostRuntime, outcome: Outcome) {
     let refused = if outcome.refused { 1 } else { 0 };
     let mut line = *b"00000000 00000000\n";
     words::put(&mut line, 0, outcome.digest);
     words::put(&mut line, 9, refused);
-    io::write_all(libc::STDOUT_FILENO, &line);
+    let _ = rt.write_all(&line);
 }
 
 // Answers each line.
-fn answer(input: &[u8]) {
+fn answer(rt: &HostRuntime, input: &[u8]) {
     let mut at = 0;
     while LINE <= input.len() - at {
         let made = outcome(
@@ -72,14 +73,13 @@ fn answer(input: &[u8]) {
             at_most(480, figure(input, at + 27)),
             figure(input, at + 36),
         );
-        write(made);
+        write(rt, made);
         at += LINE;
     }
 }
 
-fn main() {
+fn main(rt: HostRuntime) {
     let mut input = io::buffer();
-    let got = libc::read(libc::STDIN_FILENO, &mut input);
-    let n = io::count(got, &input);
-    answer(&input[..n]);
+    let n = rt.stdin().read(&mut input).unwrap_or(0);
+    answer(&rt, &input[..n]);
 }

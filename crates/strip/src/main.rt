@@ -12,6 +12,7 @@
 ghost use Rattle.io.specs.Counts.{IsPrefixLen};
 
 use ring_word::{Asked, ring_asked};
+use std::io::Read;
 use strip_run::{Run, Verdict, verdict_of};
 use units::replies::DONE;
 
@@ -29,39 +30,44 @@ struct Filled {
 }
 
 // Reads a block. A read that fails is told.
-fn read_block(block: &mut [u8]) -> Filled
+fn read_block(rt: &HostRuntime, block: &mut [u8]) -> Filled
     ensures { IsPrefixLen result.n block.new }
 {
-    let got = libc::read(libc::STDIN_FILENO, block);
-    let n = io::count(got, block);
-    if got < 0 {
-        os::fail(b"strip: standard input");
+    match rt.stdin().read(block) {
+        Ok(n) => Filled { n, well: true },
+        Err(e) => {
+            outside::fail(rt, "strip: standard input", e);
+            Filled { n: 0, well: false }
+        }
     }
-    Filled { n, well: 0 <= got }
 }
 
 // Writes the lines of a block, and answers whether that went well. Where not, it is told.
-fn write(lines: &[u8], reply: u32) -> bool {
+fn write(rt: &HostRuntime, lines: &[u8], reply: u32) -> bool {
     if reply != DONE {
-        io::write_all(libc::STDERR_FILENO, b"strip: the lines do not fit\n");
+        outside::tell(rt, "strip: the lines do not fit\n");
         return false;
     }
-    let written = io::write_all(libc::STDOUT_FILENO, lines);
-    if !written {
-        os::fail(b"strip: standard output");
+    match rt.write_all(lines) {
+        Ok(()) => true,
+        Err(e) => {
+            outside::fail(rt, "strip: standard output", e);
+            false
+        }
     }
-    written
 }
 
-// Closes standard output where all went well so far, and answers whether that does too. A close that fails is told as a
-// write is.
-fn close_output(well: bool) -> bool {
+// Settles standard output where all went well so far, and answers whether that does too. Where not, it is told as a write that
+// fails is.
+fn settle_output(rt: &HostRuntime, well: bool) -> bool {
     if well {
-        let closed = libc::close(libc::STDOUT_FILENO);
-        if closed < 0 {
-            os::fail(b"strip: standard output");
+        match outside::settle_output(rt) {
+            Ok(()) => true,
+            Err(e) => {
+                outside::fail(rt, "strip: standard output", e);
+                false
+            }
         }
-        0 <= closed
     } else {
         false
     }
@@ -79,7 +85,7 @@ fn tell(verdict: Verdict) {
 
 // Runs the strip with rings of this capacity: takes the blocks one after the other. A proved loop has to end, so it counts
 // its turns down, from a number that no run uses up.
-fn run_strip(capacity: u32) {
+fn run_strip(rt: &HostRuntime, capacity: u32) {
     let mut block = [0u8; BLOCK];
     let mut out = io::large_buffer();
     let mut run = Run::new(capacity);
@@ -88,13 +94,13 @@ fn run_strip(capacity: u32) {
     let mut more = true;
     let mut turns = u64::MAX;
     while turns > 0 && more {
-        let filled = read_block(&mut block);
+        let filled = read_block(rt, &mut block);
         let n = filled.n;
         read = filled.well;
         if read {
             let taken = run.take(&block[..n], &mut out);
             let length = taken.length;
-            written = write(&out[..length], taken.reply);
+            written = write(rt, &out[..length], taken.reply);
             run = taken.run;
             more = written & run.desk.more;
         } else {
@@ -102,27 +108,27 @@ fn run_strip(capacity: u32) {
         }
         turns -= 1;
     }
-    let closed = close_output(read & written);
-    tell(verdict_of(run, read, written, closed));
+    let settled = settle_output(rt, read & written);
+    tell(verdict_of(run, read, written, settled));
 }
 
 // What the words ask for.
-fn asked() -> Asked {
+fn asked(rt: &HostRuntime) -> Asked {
     let mut first = io::buffer();
     let mut second = io::buffer();
-    let n = os::arg(1, &mut first);
-    let m = os::arg(2, &mut second);
+    let n = outside::word(rt, 1, &mut first);
+    let m = outside::word(rt, 2, &mut second);
     ring_asked(&first[..n], &second[..m])
 }
 
-fn main() {
-    let wish = asked();
-    if wish.ok & (os::arg_count() <= wish.from) {
-        run_strip(wish.capacity);
+fn main(rt: HostRuntime) {
+    let wish = asked(&rt);
+    if wish.ok & (outside::word_count(&rt) <= wish.from) {
+        run_strip(&rt, wish.capacity);
     } else {
-        io::write_all(
-            libc::STDERR_FILENO,
-            b"strip: it may take the words --ring N, with N from 1 to 16: strip [--ring N] < FILE.strip\n",
+        outside::tell(
+            &rt,
+            "strip: it may take the words --ring N, with N from 1 to 16: strip [--ring N] < FILE.strip\n",
         );
     }
 }

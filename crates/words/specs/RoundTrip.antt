@@ -1,12 +1,11 @@
 -- A law of the definitions: the eight digits of a number below 2^32 are read back as that number. So no two have the same digits, and
 -- what a question can ask an answer can say.
-use Rattle.std.specs.Prelude.{◌≡◌, refl, Bool, true, false, ℕ, ◌+◌, ◌*◌, ◌/◌, ◌%◌, ◌<◌, ◌≤◌, ltb}
+use Rattle.std.specs.Prelude.{◌≡◌, refl, Bool, true, false, ℕ, ◌+◌, ◌/◌, ◌%◌, ◌<◌, ◌≤◌, ltb}
 use Rattle.std.proofs.Common.{ap, arith, lt-ltb, le-ltb, le-leb, ltb-true, ltb-false}
 use Rattle.std.proofs.lemmas.Bool.{lt-leb}
 use Rattle.io.specs.Digits.{hex_digit_ascii, last_digits}
 use Rattle.words.specs.Hex.{digit_of, half_at, word_at}
 use Rattle.words.specs.declared.Digit.{Digit}
-use Rattle.words.specs.declared.Word.{Word}
 
 -- a digit that is worth v
 abbrev worth : ℕ → Digit

@@ -11,15 +11,12 @@ use units::replies::{DONE, FIGURE, SHAPE};
 use units::settings::Settings;
 
 // Prints an example, its reply, and whether that is the paper's.
-fn show(example: &[u8], reply: u32, due: u32) {
-    io::write_all(libc::STDOUT_FILENO, example);
-    io::write_all(libc::STDOUT_FILENO, b": reply ");
-    io::print_decimal(libc::STDOUT_FILENO, reply as u64);
-    if reply == due {
-        io::write_all(libc::STDOUT_FILENO, b", as on paper\n");
+fn show(rt: &HostRuntime, example: &str, reply: u32, due: u32) {
+    let _ = if reply == due {
+        println!(rt; "{example}: reply {reply}, as on paper")
     } else {
-        io::write_all(libc::STDOUT_FILENO, b", NOT as on paper\n");
-    }
+        println!(rt; "{example}: reply {reply}, NOT as on paper")
+    };
 }
 
 // The reply of a new chain with channels of so many samples.
@@ -29,23 +26,23 @@ fn with_samples(samples: usize) -> u32 {
 }
 
 // "51 is accepted, -1 refused with 2."
-fn show_ratios() {
+fn show_ratios(rt: &HostRuntime) {
     let largest = ratio(Db(51.0));
-    show(b"ratio of 51", largest.reply, DONE);
+    show(rt, "ratio of 51", largest.reply, DONE);
     let negative = ratio(Db(-1.0));
-    show(b"ratio of -1", negative.reply, FIGURE);
+    show(rt, "ratio of -1", negative.reply, FIGURE);
 }
 
 // "Samples 20, 50, 500: reply 1. 40, 480: accepted."
-fn show_samples() {
-    show(b"samples 20", with_samples(20), SHAPE);
-    show(b"samples 50", with_samples(50), SHAPE);
-    show(b"samples 500", with_samples(500), SHAPE);
-    show(b"samples 40", with_samples(40), DONE);
-    show(b"samples 480", with_samples(480), DONE);
+fn show_samples(rt: &HostRuntime) {
+    show(rt, "samples 20", with_samples(20), SHAPE);
+    show(rt, "samples 50", with_samples(50), SHAPE);
+    show(rt, "samples 500", with_samples(500), SHAPE);
+    show(rt, "samples 40", with_samples(40), DONE);
+    show(rt, "samples 480", with_samples(480), DONE);
 }
 
-fn main() {
-    show_ratios();
-    show_samples();
+fn main(rt: HostRuntime) {
+    show_ratios(&rt);
+    show_samples(&rt);
 }

@@ -1,0 +1,22 @@
+-- `strip::run_strip` is safe: the lines of a block have room in the buffer. Assumes nothing.
+use Rattle.std.proofs.Common.{◌≡◌, ◌≤◌, List, ℕ, length, arith, sym, rules}
+use lib.Seq.{length-take-le}
+use Rattle.strip_run.specs.Run.{taken_of}
+use Rattle.strip_run.specs.Laws.Room.{taken_fits}
+use Rattle.strip_run.specs.declared.Run.{Run}
+use Rattle.strip_run.specs.declared.Taken.{Taken}
+use Rattle.strip.proofs.run_strip.Goals as goal
+
+-- the lines have room in the buffer
+fits : (r : Run) (block : List ℕ) (space : ℕ) (answer : Taken) → answer ≡ taken_of r block space → answer.length ≤ space
+fits r block space answer e = rw e (taken_fits r block space)
+
+pub slice_bounds-out-end : goal.slice_bounds-out-end
+slice_bounds-out-end c =
+    let long : length c.take-taken.new.out ≡ 65536 = search rules in
+    omega (arith, fits _ _ _ c.take-taken.result c.take-taken.ensures.value, c.loop-turns.invariant.1)
+
+pub slice_bounds-write-end : goal.slice_bounds-write-end
+slice_bounds-write-end c =
+    let long : length c.take-taken.new.out ≡ 65536 = search rules in
+    sym (length-take-le _ _ (omega (arith, fits _ _ _ c.take-taken.result c.take-taken.ensures.value, c.loop-turns.invariant.1)))
