@@ -311,23 +311,23 @@ cp level "$copy/"
 cp tools/*.bash tools/meter tools/strip-maker tools/ratio "$copy/tools/"
 cp tests/*.bash tests/run-program "$copy/tests/"
 tar -c --exclude='crates/*/out' crates crates.txt | tar -x -C "$copy"
-# The toolchain proves two crates, does as `mood` says, and builds the programs that are here.
+# The toolchain proves three crates, does as `mood` says, and builds the program that is here.
 cat >"$room/bin/rt" <<'FAKE'
 #!/usr/bin/env bash
 name=${PWD##*/}
 cd ../..
 echo "$name $*" >>rt.asked
-case $(cat rt.mood),$* in
-waits,*)
-    [ "$(wc -l <rt.asked)" -gt 2 ] || exit 0
+for crate in lists rounding floats; do printf 'crate %s: modules loaded=1 checked=1\nlogic=proved functions=1\n' $crate >&2; done
+case $(cat rt.mood) in
+waits)
     # As a prover may: it does not hear the signal of a terminal.
     trap '' INT
     sleep 300 &
     echo $! >rt.child
     wait
     ;;
-refuses,run) exit 1 ;;
-*,run)
+refuses) exit 1 ;;
+*)
     mkdir -p "crates/$name/out"
     from=$(cat rt.from)/crates/$name/out/$name
     [ "$(cat rt.mood) $name" != "errs strip" ] || from=/bin/true
@@ -375,8 +375,7 @@ rm "$copy/rt.asked"
 there strip "$PWD/$service"
 same "level: the first run builds and runs" 0 "$ended"
 same_file "level: the first run: its lines" examples/service.lines "$room/got"
-same "level: all programs are built, and nothing else is run" "carry recording replay strip" \
-    "$(sed -n 's/ run$//p' "$copy/rt.asked" | LC_ALL=C sort | paste -sd' ')"
+same "level: all programs are built" "strip run,carry run,recording run,replay run" "$(paste -sd, "$copy/rt.asked")"
 total=$(awk -F: '
     /^[^#]/ { deps[$1] = $2 }
     END {
@@ -387,8 +386,7 @@ total=$(awk -F: '
         }
         print all
     }' crates.txt)
-same "level: each crate below them is built once" "$total $total" "$(wc -l <"$copy/rt.asked") $(sort -u "$copy/rt.asked" | wc -l)"
-same "level: the first run says how far it is" "3 of $total" "$(sed -n 's/^proved \(3 of [0-9]*\): .*/\1/p' "$room/err" | tail -n 1)"
+same "level: the first run says how far it is" "3 of $total floats" "$(sed -n 's/^proved \(3 of [0-9]*\): \(floats\)$/\1 \2/p' "$room/err" | tail -n 1)"
 there ratio 20
 same "level: the second run builds nothing" "0 1" "$ended $(asked)"
 ln -s "$copy/level" "$room/link"

@@ -52,12 +52,15 @@ same "test-c takes a strip with gaps, which change no other line" "0 0" "$? $(gr
 # The words are judged before anything is built: a script stands in for rt, in a copy where nothing is.
 mkdir -p "$room/copy" "$room/bin"
 cp -r library tools examples crates.txt "$room/copy"
+mkdir -p "$room/copy/crates/murzicanu"
 cat >"$room/bin/rt" <<END
 #!/usr/bin/env bash
 trap '' INT TERM
 echo \$\$ >>"$room/asked"
-echo "rt: lists proved (0 s)"
-echo "rt: rounding NOT PROVED (exit 1, 0 s)"
+echo "crate lists: modules loaded=0 checked=1"
+echo "logic=proved functions=1"
+echo "crate rounding: modules loaded=0 checked=1"
+echo "logic=not-proved"
 if [ -e "$room/hangs" ]; then
     sleep 1000 &
     echo \$! >>"$room/asked"

@@ -14,9 +14,10 @@ crates_behind() { # NAME..
         }
         { sub(/#.*/, "") }
         /:/ {
-            name = $0
-            sub(/:.*/, "", name)
-            gsub(/[ \t]/, "", name)
+            # Behind the name may stand `staticlib`.
+            sub(/^[ \t]+/, "")
+            split($0, names, /[ \t:]+/)
+            name = names[1]
             sub(/^[^:]*:/, "")
             uses[name] = $0
             listed = listed " " name
@@ -27,20 +28,25 @@ crates_behind() { # NAME..
         }' crates.txt
 }
 
-# Proves the named crates and all that they use, the lowest first: `rt lib` for each, and `rt VERB` for those that are named (lib, or
-# run for a program, which reads nothing then). It goes on in a session of its own, with nothing to read and a folder of its own for
-# what is written in between; all that is said goes to LOG. Each crate that is done is told on standard error: in one line that
-# changes where that is a terminal, otherwise in a line each. Returns the status of the `rt` that failed, or 0. A signal that ends
-# this shell meanwhile (INT, TERM, HUP: the status is 130, 143, 129), and any other end, ends the session first; the caller's own
-# traps are put back, and that for EXIT is run.
+# Runs `rt VERB` in the folder of each crate NAME, one after the other, up to the first that fails; VERB may have flags in the same
+# word. It has a session of its own, nothing to read, and a folder of its own for what it writes in between; all that it says goes to
+# LOG. `rt` proves the crates that NAME uses as well, where they have changed since they were proved, and says nothing of one that
+# has not. `rt run` proves and builds a program and then runs it: what that writes and how it ends is nothing here. Each crate that is
+# done is told on standard error, the silent ones at the end: in one line that changes where that is a
+# terminal, otherwise in a line each. Returns the status of `rt`. A signal that ends this shell meanwhile (INT, TERM, HUP: the status
+# is 130, 143, 129), and any other end, ends the session first; the caller's own traps are put back, and that for EXIT is run.
 prove_with_progress() { # LOG rt VERB NAME..
-    local log=$1 name line part='' total count=0 status lines silence running=yes steps=()
+    local log=$1 name line part='' of='' total count=0 status lines silence running=yes
+    local -a behind
     local -A left=()
     shift
-    for name in $(crates_behind "${@:3}"); do left[$name]=yes steps+=("$name"); done
+    mapfile -t behind < <(crates_behind "${@:3}")
+    for name in "${behind[@]}"; do left[$name]=yes; done
     total=${#left[@]}
     # Of the silence nothing is ever read: a pause without a process, of which the shell would tell how a signal ends it.
     : >"$log" && exec {lines}<"$log" {silence}<> <(:) && proving_room=$(mktemp -d) || return
+    # `rt` runs a program as another user where it can, who has to reach its folder.
+    chmod 711 "$proving_room"
     proving_shown='' proving_last=${!-} proving_traps=$(trap -p INT TERM HUP QUIT EXIT)
     eval "proving_exit=($(trap -p EXIT))"
     trap 'end_proving && :; eval "${proving_exit[2]-}"' EXIT
@@ -48,39 +54,41 @@ prove_with_progress() { # LOG rt VERB NAME..
     trap 'exit 143' TERM
     trap 'exit 129' HUP
     trap 'exit 131' QUIT
-    # The last that `rt run` says of a program that is proved and built is that it runs it. How that ends is nothing here.
     TMPDIR=$proving_room setsid bash -c '
-        log=$1 rt=$2 verb=$3 named=" $4 "
-        for name in "${@:5}"; do
-            does=lib
-            [[ $named != *" $name "* ]] || does=$verb
-            (cd "crates/$name" && if [ "$does" = run ]; then exec "$rt" run 2>&1 >/dev/null; else exec "$rt" "$does" 2>&1; fi)
-            status=$?
-            [ -z "$(tail -c 1 "$log")" ] || echo
-            [ "$status" -eq 0 ] || grep -q "^rt: running out/$name;" "$log" || exit "$status"
-            echo "proved: $name"
-        done' - "$log" "$1" "$2" "${*:3}" "${steps[@]}" >>"$log" 2>&1 </dev/null &
+        for name in "${@:4}"; do
+            if [ "$3" = run ]; then
+                (cd "crates/$name" && exec "$2" run) 2>&1 >/dev/null || grep -q "^rt: running out/$name;" "$1" || exit 1
+            else
+                (cd "crates/$name" && exec "$2" $3) || exit
+            fi
+        done' prover "$log" "$@" >>"$log" 2>&1 </dev/null &
     while [ "$running" = yes ]; do
         read -r -t 0.2 -u "$silence" _ || :
         # What was said last is read after the end.
         kill -0 "$!" 2>/dev/null || running=no
         while IFS= read -r line <&"$lines"; do
             line=$part$line part=
-            [[ $line =~ ^proved:\ ([a-zA-Z0-9_]+)$ ]] || continue
-            name=${BASH_REMATCH[1]}
-            [ -n "${left[$name]-}" ] || continue
-            unset "left[$name]"
-            count=$((count + 1))
-            line="proved $count of $total: $name"
-            if [ -t 2 ]; then printf '\r%-60s' "$line" >&2 && proving_shown=yes; else echo "$line" >&2; fi
+            # A crate's count of modules; and behind it, where that is so, that the crate is proved.
+            [[ ! $line =~ ^crate\ ([a-z0-9_]+):\  ]] || of=${BASH_REMATCH[1]}
+            [[ ! $line =~ ^logic=proved\  ]] || tell_proved "$of"
         done
         # A line that is still being written.
         part+=$line
     done
     exec {lines}<&- {silence}<&-
     wait "$!" && status=0 || status=$?
+    if [ "$status" = 0 ]; then for name in "${behind[@]}"; do tell_proved "$name"; done; fi
     end_proving
     return "$status"
+}
+
+# Tells a crate once, of prove_with_progress.
+tell_proved() { # NAME
+    [ -n "$1" ] && [ -n "${left[$1]-}" ] || return 0
+    unset "left[$1]"
+    count=$((count + 1))
+    local line="proved $count of $total: $1"
+    if [ -t 2 ]; then printf '\r%-60s' "$line" >&2 && proving_shown=yes; else echo "$line" >&2; fi
 }
 
 # Ends what prove_with_progress has started, and puts back what it has changed. Returns the status that there was before.

@@ -3,7 +3,6 @@
 use Rattle.std.specs.Prelude.{◌≡◌, true, T}
 use Rattle.std.specs.Float.{binary32}
 use Rattle.std.specs.Float.Ieee.{fits}
-use Rattle.units.specs.declared.settings.Settings.{Settings}
 use Rattle.speech_level_estimator.specs.Held.{HeldEstimator}
 use Rattle.saturation_protector.specs.declared.Protector.{Protector}
 use Rattle.adaptive_digital_gain_controller.specs.Range.{HeldState}

@@ -1,9 +1,8 @@
 -- Document 01's worked examples of the ratio: 0 gives 1, 20 gives 10, 40 gives 100; 51 is accepted, and -1 is refused with 2.
-use Rattle.std.specs.Prelude.{◌≡◌, refl, Float}
+use Rattle.std.specs.Prelude.{◌≡◌, refl}
 use Rattle.std.specs.Float.{binary32}
-use Rattle.std.specs.Float.Ieee.{of_bits, of_int, le, lt, eq, add, sub, mul, neg, round, size as bits}
+use Rattle.std.specs.Float.Ieee.{of_bits, of_int, le, lt, eq, add, sub, mul, size as bits}
 use Rattle.units.specs.Replies.{done, bad_figure}
-use Rattle.decibels.specs.declared.Answer.{Answer}
 use Rattle.decibels.specs.Ratio.{A, B, steps, rest, ratio_of, answer, whole_bits, sixteenth_bits}
 
 pub ratio_of_0 : answer (of_bits binary32 0x0000_0000) ≡ record { reply = done; ratio = of_bits binary32 0x3f80_0000 }

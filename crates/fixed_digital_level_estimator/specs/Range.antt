@@ -1,5 +1,5 @@
 -- The words of the laws on the envelope's range. Definitions only.
-use Rattle.std.specs.Prelude.{true, List, [], ◌∷◌, ◌≡◌, ℕ, T, Float, get_or}
+use Rattle.std.specs.Prelude.{true, List, ◌≡◌, ℕ, T, Float, get_or}
 use Rattle.std.specs.Float.{nan, binary32}
 use Rattle.std.specs.Float.Ieee.{fits, of_bits}
 use Rattle.rounding.specs.Units.{In}

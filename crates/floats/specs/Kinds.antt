@@ -1,6 +1,6 @@
 -- What kind of number a float is, and the number without its sign.
 -- Definitions only.
-use Rattle.std.specs.Prelude.{Bool, true, false, ◌&&◌, eqb, Float}
+use Rattle.std.specs.Prelude.{Bool, false, ◌&&◌, eqb, Float}
 use Rattle.std.specs.Float.{nan, inf, fin}
 
 -- the same number without its sign

@@ -1,6 +1,6 @@
 -- What a frame's tests show where they pass, and what a frame that is not refused has. Laws.
 -- Assumes nothing.
-use Rattle.std.specs.Prelude.{◌≡◌, refl, Bool, true, false, ◌&&◌, List, [], ◌∷◌, ◌++◌, ℕ, ◌*◌, ◌%◌, ◌≤◌, ◌<◌, leb, length, get_or, take, drop, Float}
+use Rattle.std.specs.Prelude.{◌≡◌, refl, Bool, true, ◌&&◌, List, [], ◌∷◌, ◌++◌, ℕ, ◌*◌, ◌%◌, ◌≤◌, ◌<◌, leb, length, get_or, take, drop, Float}
 use Rattle.std.proofs.Common.{sym, ap, ◌∙◌, take-append-drop, leb-true, eqb-true}
 use Rattle.std.proofs.Math.Bool.{and_assoc}
 use Rattle.std.specs.Float.Ieee.{nan}

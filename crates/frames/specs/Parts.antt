@@ -1,5 +1,5 @@
 -- "A frame is one lent f32 buffer, channel after channel": what is done to each channel's part, in order. Definitions only.
-use Rattle.std.specs.Prelude.{List, [], ◌++◌, ℕ, zero, suc, take, drop}
+use Rattle.std.specs.Prelude.{List, ◌++◌, ℕ, zero, suc, take, drop}
 
 -- f done to each of the first k parts of n elements; what is left over stays
 unfoldable pub each_part : {A : Type 0} → (List A → List A) → ℕ → ℕ → List A → List A

@@ -2,9 +2,9 @@
 -- exactly where the magnitude of x is at most the bound. Rounding keeps the order, and the square of the next f32 above the bound is rounded to
 -- more than the bound's square. A NaN, an infinity and a square that is too large for an f32 fail both tests. Laws.
 -- Assumes nothing.
-use Rattle.std.specs.Prelude.{◌≡◌, ◌⊎◌, Bool, not, ℕ, zero, suc, ◌+◌, ◌*◌, ◌^◌, ◌≤◌, ◌<◌, T, leb, eqb, ℤ, pos, Float}
+use Rattle.std.specs.Prelude.{◌≡◌, ◌⊎◌, Bool, not, ℕ, zero, suc, ◌+◌, ◌*◌, ◌^◌, ◌≤◌, ◌<◌, T, leb, ℤ, pos, Float}
 use Rattle.std.proofs.Math.Path.{refl, subst}
-use Rattle.std.proofs.Common.{sym, ap, ◌∙◌, inl, inr, le_trans, le_of_eq, lt_of_lt_of_le, mul_assoc, mul_comm, mul-pos, mul-le-mul, mul-le-mul_right, mul_right_comm, le_of_mul-le-mul_right, leb→le, lit<, pow-add, pow_pos}
+use Rattle.std.proofs.Common.{sym, ap, ◌∙◌, inl, inr, le_trans, le_of_eq, mul-pos, mul-le-mul, mul-le-mul_right, mul_right_comm, le_of_mul-le-mul_right, leb→le, lit<, pow-add, pow_pos}
 use Rattle.std.proofs.Math.Bool.{true, false}
 use Rattle.std.proofs.lemmas.Bool.{false≢true}
 use Rattle.std.proofs.Math.Nat.{mul-mul-mul_comm}

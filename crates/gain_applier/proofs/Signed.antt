@@ -1,5 +1,5 @@
 -- The remembered samples are a signed number: what its tests and its casts say of it. Assumes nothing.
-use Rattle.std.proofs.Common.{◌≡◌, ℕ, zero, suc, ◌-◌, ◌^◌, ◌<◌, Bool, true, false, T, eqb, ltb, ℤ, pos, negsuc, nat_abs, sym, refl, ap, ◌∙◌, subst, true≢false, arith, to_z-of_z, w32, w64, Fits, SFits, to_z, of_z, ne_eqb}
+use Rattle.std.proofs.Common.{◌≡◌, ℕ, zero, suc, ◌-◌, ◌^◌, ◌<◌, true, false, T, eqb, ℤ, pos, negsuc, nat_abs, sym, refl, ◌∙◌, true≢false, arith, w32, SFits, of_z, ne_eqb}
 use mathlib.Core.Bool.{false≢true}
 use lib.Dec.{leb-suc-zero}
 use lib.Signed.{lt_z, non_neg}

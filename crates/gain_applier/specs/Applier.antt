@@ -1,5 +1,5 @@
 -- The state of the applier, and what each call answers, refusals first. Definitions only.
-use Rattle.std.specs.Prelude.{ℕ, zero, suc, Bool, true, false, cond, ◌&&◌, ◌||◌, List, ℤ, pos, negsuc, ◌==◌, from_bits, Float}
+use Rattle.std.specs.Prelude.{ℕ, zero, suc, Bool, true, false, cond, ◌&&◌, List, ℤ, pos, negsuc, ◌==◌, from_bits, Float}
 use Rattle.std.specs.Float.{binary32}
 use Rattle.std.specs.Float.Ieee.{of_int, div, eq}
 use Rattle.units.specs.Figures.{gain_factor}

@@ -1,5 +1,5 @@
 -- The words of the laws on the range of the gains and the samples. Definitions only.
-use Rattle.std.specs.Prelude.{◌≡◌, ℕ, ◌+◌, ◌≤◌, not, T, List, [], ◌∷◌, from_bits, is_nan, slice_index_or, Float}
+use Rattle.std.specs.Prelude.{◌≡◌, ℕ, ◌+◌, ◌≤◌, not, T, List, from_bits, is_nan, slice_index_or, Float}
 use Rattle.std.specs.Float.{nan, binary32}
 use Rattle.std.specs.Float.Ieee.{fits}
 use Rattle.rounding.specs.Units.{P, N, Number, In}

@@ -4,7 +4,6 @@ pub mod Steps
 pub mod Ground
 pub mod NoTrace
 pub mod Calls
-pub mod Agree
 pub mod Weighted
 pub mod Start
 pub mod Ends
@@ -12,4 +11,3 @@ pub mod Confidence
 pub mod Gaps
 pub mod Capacity
 pub mod Longest
-pub mod Theorems

@@ -1,8 +1,8 @@
 -- Expressions over f32, and the box in which the result lies where each variable lies in a box of its own. Rounding keeps the order,
 -- so the ends of the box are worked out by the very operations of the expression. Definitions only; `Laws.Interval` proves it.
-use Rattle.std.specs.Prelude.{Bool, true, false, ◌&&◌, List, [], ◌∷◌, ℕ, get_or, Float}
+use Rattle.std.specs.Prelude.{Bool, ◌&&◌, List, [], ◌∷◌, ℕ, get_or, Float}
 use Rattle.std.specs.Float.{nan, binary32}
-use Rattle.std.specs.Float.Ieee.{add, sub, mul, div, lt, le, fits, of_bits}
+use Rattle.std.specs.Float.Ieee.{add, sub, mul, div, lt, fits, of_bits}
 use Rattle.std.specs.Float.Ieee.Scale.{finite}
 use Rattle.floats.specs.Choice as Choice
 use Rattle.rounding.specs.Units.{Number, In}

@@ -1,7 +1,7 @@
 -- The state of the limiter, and what each call answers, refusals first. Definitions only.
 use Rattle.std.specs.Prelude.{Bool, true, ◌&&◌, cond, List, [], ◌∷◌, ℕ, eqb, get_or, Float}
 use Rattle.std.specs.Float.{nan, binary32}
-use Rattle.std.specs.Float.Ieee.{of_bits, lt}
+use Rattle.std.specs.Float.Ieee.{of_bits}
 use Rattle.units.specs.Ranges.{inside}
 use Rattle.units.specs.Replies.{done, refusal}
 use Rattle.frames.specs.Shape.{is_samples}

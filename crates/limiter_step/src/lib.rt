@@ -12,6 +12,7 @@ use units::replies::DONE;
 
 // Limits a frame by a limiter that is lent: the state is taken out, the limiter's step is called, and
 // the next state is stored. Refused as `process` is, and then nothing is stored in state or frame.
+#[tactic(auto, using(crate::proofs::Stays::stays))]
 pub fn process_lent(state: &mut Limiter, frame: &mut [f32], channels: usize, samples: usize) -> u32
     ensures value { result ≡ (processed state.old frame.old channels samples).next.reply }
     ensures state_after { state.new ≡ (processed state.old frame.old channels samples).next.limiter }

@@ -1,7 +1,7 @@
 -- What is gathered over the elements that were passed, one element more: for a scan whose invariant speaks of `take i xs`. Laws.
 -- Assumes nothing.
-use Rattle.std.specs.Prelude.{◌≡◌, refl, List, [], ◌∷◌, ◌++◌, ℕ, ◌+◌, ◌<◌, length, get_or, take}
-use Rattle.std.proofs.Common.{sym, ap, ◌∙◌, add-one, take-suc}
+use Rattle.std.specs.Prelude.{◌≡◌, List, [], ◌∷◌, ◌++◌, ℕ, ◌+◌, ◌<◌, length, get_or, take}
+use Rattle.std.proofs.Common.{add-one, take-suc}
 
 module _ {ℓ κ} {A : Type ℓ} {B : Type κ} where
   -- F gathers by an operation that may be grouped as one likes and starts at e, as all by `&&` from true, any by `||` from false, a sum by `+` from 0.

@@ -1,8 +1,8 @@
 -- The invariant of a loop that goes up a list whose definition is a structural recursion: what is done, then the definition on what is left.
 -- F is what is to be done to the list from i on, G what is to be done from i + 1 on; where the loop carries a state they differ in it. Laws.
 -- Assumes nothing.
-use Rattle.std.specs.Prelude.{◌≡◌, refl, List, [], ◌∷◌, ◌++◌, ℕ, ◌+◌, ◌<◌, ◌≤◌, length, get_or, set, take, drop}
-use Rattle.std.proofs.Common.{sym, ap, ◌∙◌, append-nil, drop_of_length-le, take_all}
+use Rattle.std.specs.Prelude.{◌≡◌, List, [], ◌∷◌, ◌++◌, ℕ, ◌+◌, ◌<◌, ◌≤◌, length, get_or, set, take, drop}
+use Rattle.std.proofs.Common.{sym, ap, append-nil, drop_of_length-le, take_all}
 use Rattle.lists.specs.Stores.{next, stores, after_store}
 
 module _ {ℓ} {A : Type ℓ} where

@@ -1,7 +1,7 @@
 -- What a loop that goes up does to a list at one place, i: it reads there, and it stores there. `i + 1` is the code's. Laws.
 -- Assumes nothing.
-use Rattle.std.specs.Prelude.{◌≡◌, refl, List, [], ◌∷◌, ◌++◌, ℕ, suc, ◌+◌, ◌<◌, length, get_or, set, take, drop}
-use Rattle.std.proofs.Common.{sym, ap, ◌∙◌, le_refl, add-one, drop-cons, take-suc, take-suc-set, drop-set-lt}
+use Rattle.std.specs.Prelude.{◌≡◌, List, ◌∷◌, ◌++◌, ℕ, suc, ◌+◌, ◌<◌, length, get_or, set, take, drop}
+use Rattle.std.proofs.Common.{le_refl, add-one, drop-cons, take-suc, take-suc-set, drop-set-lt}
 use Rattle.std.proofs.Math.Seq.{append_snoc}
 
 module _ {ℓ} {A : Type ℓ} where

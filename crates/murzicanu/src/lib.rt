@@ -52,6 +52,7 @@ pub extern "C" fn murzicanu_chain_new(
 
 // Takes a frame with its figures: levels it where it stands, and tells what it was. Refused with 1, 4, 2 or 3, and
 // then nothing is stored in the chain or the frame, and the answer is all 0.
+#[tactic(auto, using(kept::specs::Laws::Calls::chain_refused))]
 #[unsafe(no_mangle)]
 pub extern "C" fn murzicanu_chain_step(
     chain: &mut KeptChain,
@@ -79,6 +80,7 @@ pub extern "C" fn murzicanu_chain_step(
 
 // Marks a gap: frames were lost, so that those before it and after it are not adjacent. It ends the run of speech, and
 // has no sound. A chain that fails its test is refused with 4, and then nothing is stored in it.
+#[tactic(auto, using(kept::specs::Laws::Gaps::chain_gap_refused))]
 #[unsafe(no_mangle)]
 pub extern "C" fn murzicanu_chain_gap(chain: &mut KeptChain) -> u32
     ensures value { result ≡ (chain_gapped chain.old).reply }
@@ -117,6 +119,7 @@ pub extern "C" fn murzicanu_limiter_new(limiter: &mut KeptLimiter, samples: usiz
 }
 
 // Limits a frame where it stands. Refused with 1, 4 or 3, and then nothing is stored in the limiter or the frame.
+#[tactic(auto, using(kept::specs::Laws::Calls::limiter_refused))]
 #[unsafe(no_mangle)]
 pub extern "C" fn murzicanu_limiter_step(
     limiter: &mut KeptLimiter,

@@ -1,6 +1,6 @@
 -- Each finite f32 as a whole number of units of 2 ^ -149, the smallest f32 above zero: P x - N x units, of which one is always 0.
 -- So an order of floats is an order of sums, and no proof goes by signs. Definitions only.
-use Rattle.std.specs.Prelude.{◌≡◌, Bool, cond, ℕ, ◌+◌, ◌-◌, ◌*◌, ◌/◌, ◌^◌, ◌≤◌, ◌<◌, T, Float}
+use Rattle.std.specs.Prelude.{◌≡◌, cond, ℕ, ◌+◌, ◌-◌, ◌*◌, ◌/◌, ◌^◌, ◌≤◌, ◌<◌, T, Float}
 use Rattle.std.specs.Float.{nan, inf, fin, binary32}
 use Rattle.std.specs.Float.Ieee.{up, down, fits}
 use Rattle.std.specs.Float.Ieee.Order.{drop, kept}

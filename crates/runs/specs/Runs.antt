@@ -1,5 +1,5 @@
 -- Document 01's "Runs", once over the threshold t and over any kind of state. Definitions only.
-use Rattle.std.specs.Prelude.{Bool, true, false, ◌&&◌, not, cond, ℕ, ◌+◌, leb, ltb, Float}
+use Rattle.std.specs.Prelude.{Bool, ◌&&◌, not, cond, ℕ, ◌+◌, leb, ltb, Float}
 use Rattle.std.specs.Float.{binary32}
 use Rattle.std.specs.Float.Ieee.{of_bits, le}
 use Rattle.runs.specs.declared.Turn.{Turn}

@@ -23,15 +23,15 @@ made initial t capacity =
 
 -- a frame's figures are in their ranges
 abbrev pub figures : Float → Float → Float → Bool
-figures p peak speechLevel = probability p && level peak && level speechLevel
+figures p peak speech_level = probability p && level peak && level speech_level
 
 -- a frame: 4 for the state comes before 2 for the figures, and a refused frame changes nothing
 unfoldable pub stepped : Protector → Float → Float → Float → Next
 unfolding refusal passes analyzed
-stepped s p peak speechLevel =
+stepped s p peak speech_level =
     record {
-      reply = refusal true (passes s) (figures p peak speechLevel) true;
-      protector = cond (passes s && figures p peak speechLevel) (analyzed s p peak speechLevel) s;
+      reply = refusal true (passes s) (figures p peak speech_level) true;
+      protector = cond (passes s && figures p peak speech_level) (analyzed s p peak speech_level) s;
     }
 
 -- a gap: it has no figures, so it is refused for the state alone

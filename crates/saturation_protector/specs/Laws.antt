@@ -10,8 +10,4 @@ pub mod Passing
 pub mod Capacity
 pub mod Again
 pub mod Pushes
-pub mod Joined
-pub mod Forty
-pub mod Short
 pub mod Outcome
-pub mod Gaps

@@ -81,13 +81,13 @@ nearer h difference =
 -- "As `update_saturation_protector_state`. The largest peak is pushed when elapsed time exceeds 400 ms; with an empty ring it stands for the oldest."
 unfoldable pub advanced : Float → Float → Peaks → Peaks
 unfolding larger Ring.push Ring.items oldest_or nearer
-advanced peak speechLevel s =
+advanced peak speech_level s =
     let new = larger s.largest peak in
     let due = ltb longest (s.elapsed + frame_time) in
     let ring = cond due (Ring.push s.ring new) s.ring in
     let largest = cond due lowest new in
     record {
-      headroom = nearer s.headroom (sub binary32 (oldest_or (Ring.items ring) largest) speechLevel);
+      headroom = nearer s.headroom (sub binary32 (oldest_or (Ring.items ring) largest) speech_level);
       ring = ring;
       largest = largest;
       elapsed = cond due 0 (s.elapsed + frame_time);

@@ -71,8 +71,8 @@ again s =
 -- a frame of this probability and this peak, beside this level of the speech
 unfoldable pub analyzed : Protector → Float → Float → Float → Protector
 unfolding framed published Peaks.advanced
-analyzed s p peak speechLevel =
-    let next = framed (speech p) (Peaks.advanced peak speechLevel) s.threshold (run s) in
+analyzed s p peak speech_level =
+    let next = framed (speech p) (Peaks.advanced peak speech_level) s.threshold (run s) in
     record {
       initial = s.initial;
       threshold = s.threshold;

@@ -3,11 +3,11 @@
 #![tactic(auto)]
 
 ghost use Rattle.std.specs.Prelude.{◌≡◌, ◌≤◌, cond, true};
-ghost use Rattle.units.specs.Figures.{level as isLevel};
+ghost use Rattle.units.specs.Figures.{level as is_level};
 ghost use Rattle.saturation_protector_buffer.specs.Rings.{slots};
-ghost use Rattle.saturation_protector_buffer.specs.Ring.{largest, is_capacity, passes as passesRing, push, items};
+ghost use Rattle.saturation_protector_buffer.specs.Ring.{largest, is_capacity, passes as passes_ring, push, items};
 ghost use Rattle.saturation_protector.specs.Peaks.{all_levels, none, starting, passes, oldest_or, nearer, restarted, advanced};
-ghost use Rattle.saturation_protector.specs.Protector.{passes as passesProtector, fresh, nothing, analyzed, interrupted};
+ghost use Rattle.saturation_protector.specs.Protector.{passes as passes_protector, fresh, nothing, analyzed, interrupted};
 ghost use Rattle.saturation_protector.specs.Calls.{made, stepped, gap, reset, told};
 
 use saturation_protector_buffer::{Front, Ring, STORAGE, is_capacity};
@@ -81,7 +81,7 @@ fn pick_peaks(b: bool, x: Peaks, y: Peaks) -> Peaks
 
 // The ring with a peak more where one is due, and as it is otherwise.
 fn pushed_when(due: bool, ring: Ring, peak: f32) -> Ring
-    requires { (passesRing ring ≡ true) × (isLevel peak ≡ true) }
+    requires { (passes_ring ring ≡ true) × (is_level peak ≡ true) }
     ensures { result ≡ cond due (push ring peak) ring }
 {
     if due {
@@ -108,7 +108,7 @@ fn are_levels(stored: [f32; STORAGE], n: usize) -> bool
 
 // The oldest peak of a ring, and the other value where it has none.
 fn oldest_or(ring: Ring, other: f32) -> f32
-    requires { passesRing ring ≡ true }
+    requires { passes_ring ring ≡ true }
     ensures { result ≡ oldest_or (items ring) other }
 {
     let found = ring.front();
@@ -180,7 +180,7 @@ impl Peaks {
 
     // The state without its peaks, at a headroom; the ring's storage stays.
     fn restarted(self, headroom: f32) -> Peaks
-        requires { passesRing self.ring ≡ true }
+        requires { passes_ring self.ring ≡ true }
         ensures { result ≡ restarted headroom self }
     {
         let before = self.ring;
@@ -196,7 +196,7 @@ impl Peaks {
 
     // The state with one frame more, of this peak and this level of the speech.
     fn advanced(self, peak: f32, level: f32) -> Peaks
-        requires { (passes self ≡ true) × (isLevel peak ≡ true) }
+        requires { (passes self ≡ true) × (is_level peak ≡ true) }
         ensures { result ≡ advanced peak level self }
     {
         let before = self.ring;
@@ -272,7 +272,7 @@ impl Protector {
     // Whether a handed-in state passes: both headrooms and the threshold in their ranges, a run no longer
     // than the threshold, and two states that pass, with rings of one capacity.
     pub fn passes(self) -> bool
-        ensures { result ≡ passesProtector self }
+        ensures { result ≡ passes_protector self }
     {
         let preliminary = self.preliminary;
         let reliable = self.reliable;
@@ -314,7 +314,7 @@ impl Protector {
 
     // The protector after a frame.
     fn analyzed(self, probability: f32, peak: f32, level: f32) -> Protector
-        requires { (passesProtector self ≡ true) × (isLevel peak ≡ true) }
+        requires { (passes_protector self ≡ true) × (is_level peak ≡ true) }
         ensures { result ≡ analyzed self probability peak level }
     {
         let before = self.preliminary;

@@ -3,7 +3,7 @@ use Rattle.std.specs.Prelude.{◌≡◌, refl, List, [], ◌∷◌, ◌++◌, Fl
 use Rattle.std.specs.Float.{binary32}
 use Rattle.std.specs.Float.Ieee.{of_bits}
 use Rattle.units.specs.Replies.{done}
-use Rattle.saturation_protector_buffer.specs.Ring.{usual, empty}
+use Rattle.saturation_protector_buffer.specs.Ring.{usual}
 use Rattle.saturation_protector_buffer.specs.Calls.{Told, made, fronted}
 use Rattle.saturation_protector_buffer.specs.History.{after_pushes}
 

@@ -1,5 +1,5 @@
 -- The weighted average of levels. Definitions only.
-use Rattle.std.specs.Prelude.{ℕ, ◌+◌, ◌-◌, ◌*◌, ◌%◌, Bool, cond, ◌&&◌, pos, ◌==◌, from_bits, nat_le, Float}
+use Rattle.std.specs.Prelude.{ℕ, ◌-◌, ◌*◌, ◌%◌, Bool, cond, ◌&&◌, pos, ◌==◌, from_bits, nat_le, Float}
 use Rattle.std.specs.Float.{binary32}
 use Rattle.std.specs.Float.Ieee.{of_int, add, mul, div}
 use Rattle.std.specs.Float.Ieee.Scale.{finite}

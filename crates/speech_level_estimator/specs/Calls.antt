@@ -1,5 +1,5 @@
 -- What each call of the estimator answers, refusals first. Definitions only.
-use Rattle.std.specs.Prelude.{ℕ, Bool, true, false, cond, ◌&&◌, from_bits, Float}
+use Rattle.std.specs.Prelude.{ℕ, Bool, true, cond, ◌&&◌, from_bits, Float}
 use Rattle.std.specs.Float.{binary32}
 use Rattle.units.specs.Figures.{probability, rms}
 use Rattle.units.specs.Replies.{refusal}

@@ -1,5 +1,5 @@
 -- The estimator's state, its test, and what a frame does to it. Definitions only.
-use Rattle.std.specs.Prelude.{ℕ, Bool, true, false, cond, ◌&&◌, ◌||◌, ◌==◌, from_bits, nat_le, Float}
+use Rattle.std.specs.Prelude.{ℕ, Bool, false, cond, ◌&&◌, ◌||◌, ◌==◌, from_bits, nat_le, Float}
 use Rattle.std.specs.Float.{binary32}
 use Rattle.std.specs.Float.Ieee.{sub, eq}
 use Rattle.units.specs.Ranges.{closed}

@@ -5,7 +5,7 @@
 
 ghost use Rattle.std.specs.Prelude.{◌≡◌, ◌-◌, if◌then◌else◌};
 ghost use Rattle.speech_level_estimator.specs.Average.{none, starting, passes, advanced, level};
-ghost use Rattle.speech_level_estimator.specs.Estimator.{starting_level, trusted, passes as passesEstimator, nothing, fresh, updated, interrupted};
+ghost use Rattle.speech_level_estimator.specs.Estimator.{starting_level, trusted, passes as passes_estimator, nothing, fresh, updated, interrupted};
 ghost use Rattle.speech_level_estimator.specs.Calls.{made, stepped, gap, restarted, level_told, confidence_told};
 
 use units::kinds::Dbfs;
@@ -220,7 +220,7 @@ impl Estimator {
     // Whether a handed-in state passes: settings, threshold and published level in their ranges, the
     // starting level that the settings give, a run no longer than the threshold, and two averages that pass.
     pub fn passes(self) -> bool
-        ensures { result ≡ passesEstimator self }
+        ensures { result ≡ passes_estimator self }
     {
         let settings = self.settings;
         let preliminary = self.preliminary;

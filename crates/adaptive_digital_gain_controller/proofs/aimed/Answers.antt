@@ -1,5 +1,5 @@
 -- `adaptive_digital_gain_controller::aimed` meets its contract. Assumes nothing.
-use Rattle.std.proofs.Common.{◌≡◌, true, rules}
+use Rattle.std.proofs.Common.{◌≡◌, true}
 use lib.Ieee.{Float, binary32, of_bits, ne}
 use Rattle.decibels.specs.Ratio.{answer}
 use Rattle.decibels.specs.declared.Answer.{Answer}

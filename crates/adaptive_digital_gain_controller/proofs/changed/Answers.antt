@@ -1,5 +1,5 @@
 -- `adaptive_digital_gain_controller::changed` meets its contract. Assumes nothing.
-use Rattle.std.proofs.Common.{◌≡◌, Bool, cond, rules}
+use Rattle.std.proofs.Common.{◌≡◌, Bool, cond}
 use lib.Ieee.{Float, binary32, of_bits, sub, neg}
 use Rattle.floats.specs.Choice.{smaller, clamp}
 use Rattle.adaptive_digital_gain_controller.specs.Change.{changed}

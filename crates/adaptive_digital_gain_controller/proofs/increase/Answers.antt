@@ -1,5 +1,5 @@
 -- `adaptive_digital_gain_controller::increase` meets its contract. Assumes nothing.
-use Rattle.std.proofs.Common.{◌≡◌, ℕ, Bool, cond, pos, rules}
+use Rattle.std.proofs.Common.{◌≡◌, ℕ, Bool, cond, pos}
 use lib.Ieee.{Float, binary32, of_int, mul}
 use Rattle.adaptive_digital_gain_controller.specs.Change.{increase}
 use Rattle.adaptive_digital_gain_controller.proofs.increase.Goals as goal

@@ -1,5 +1,5 @@
 -- `adaptive_digital_gain_controller::target` meets its contract. Assumes nothing.
-use Rattle.std.proofs.Common.{◌≡◌, rules}
+use Rattle.std.proofs.Common.{◌≡◌}
 use lib.Ieee.{Float, binary32, add}
 use Rattle.units.specs.declared.settings.Settings.{Settings}
 use Rattle.adaptive_digital_gain_controller.specs.declared.Info.{Info}

@@ -1,5 +1,5 @@
 -- `adaptive_digital_gain_controller::under_envelope` meets its contract. Assumes nothing.
-use Rattle.std.proofs.Common.{◌≡◌, Bool, cond, ◌||◌, rules}
+use Rattle.std.proofs.Common.{◌≡◌, Bool, cond, ◌||◌}
 use lib.Ieee.{Float, binary32, of_bits, sub, le}
 use Rattle.floats.specs.Choice.{smaller, larger}
 use Rattle.adaptive_digital_gain_controller.specs.Target.{loud, under_envelope}

@@ -1,5 +1,5 @@
 -- `adaptive_digital_gain_controller::under_noise` meets its contract. Assumes nothing.
-use Rattle.std.proofs.Common.{◌≡◌, rules}
+use Rattle.std.proofs.Common.{◌≡◌}
 use lib.Ieee.{Float, binary32, of_bits, sub}
 use Rattle.floats.specs.Choice.{smaller, larger}
 use Rattle.adaptive_digital_gain_controller.specs.Target.{under_noise}

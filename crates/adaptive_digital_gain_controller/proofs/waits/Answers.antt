@@ -1,6 +1,6 @@
 -- `adaptive_digital_gain_controller::waits` meets its contract. Assumes nothing.
 use Rattle.adaptive_digital_gain_controller.specs.Change.{waits}
-use Rattle.std.proofs.Common.{arith, rules}
+use Rattle.std.proofs.Common.{arith}
 use Rattle.adaptive_digital_gain_controller.proofs.waits.Goals as goal
 
 pub returns-then-waiting-gt0 : goal.returns-then-waiting-gt0

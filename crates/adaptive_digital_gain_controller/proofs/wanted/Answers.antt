@@ -1,5 +1,5 @@
 -- `adaptive_digital_gain_controller::wanted` meets its contract. Assumes nothing.
-use Rattle.std.proofs.Common.{◌≡◌, cond, rules}
+use Rattle.std.proofs.Common.{◌≡◌, cond}
 use lib.Ieee.{Float, binary32, of_bits, add, sub, neg, lt}
 use Rattle.adaptive_digital_gain_controller.specs.Target.{wanted}
 use Rattle.adaptive_digital_gain_controller.proofs.wanted.Goals as goal

@@ -1,7 +1,6 @@
 -- `bits::float_of` meets its contract: bits that are no NaN's make a float. Assumes nothing.
-use mathlib.Core.Path.{◌≡◌, sym, ◌∙◌}
-use borrow.Author.Rules.{rules}
-use lib.Ieee.{nan_bits, of_bits, div}
+use mathlib.Core.Path.{sym, ◌∙◌}
+use lib.Ieee.{of_bits, div}
 use Rattle.bits.specs.Floats.{float_of}
 use Rattle.bits.proofs.float_of.Goals as goal
 

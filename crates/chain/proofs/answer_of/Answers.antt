@@ -1,5 +1,4 @@
 -- `chain::answer_of` meets its contract: case by case. Assumes nothing.
-use borrow.Author.Rules.{rules}
 use borrow.Author.Tests.{le-leb, lt-leb}
 use Rattle.chain.specs.Answer.{said, answer_of}
 use Rattle.chain.proofs.answer_of.Goals as goal

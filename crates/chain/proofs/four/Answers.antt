@@ -1,5 +1,4 @@
 -- `chain::four` meets its contract: each part is what its own call makes. Assumes nothing.
-use borrow.Author.Rules.{rules}
 use Rattle.chain.specs.Laws.Start.{four}
 use Rattle.chain.proofs.four.Goals as goal
 

@@ -3,7 +3,6 @@ use mathlib.Core.Path.{refl, ap}
 use Rattle.speech_level_estimator.specs.declared.Next.{Next as LevelNext}
 use Rattle.saturation_protector.specs.declared.Next.{Next as HeadroomNext}
 use Rattle.chain.specs.Calls.{informed}
-use borrow.Author.Rules.{rules}
 use Rattle.chain.proofs.hear.Goals as goal
 
 pub returns : goal.returns

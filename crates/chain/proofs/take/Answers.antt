@@ -7,7 +7,6 @@ use Rattle.chain.specs.Calls.{told, Called}
 use Rattle.chain.specs.Held.{HeldChain, HeldFigures}
 use Rattle.chain.specs.Laws.Calls.{ended, refused_late, accepted_late, late_full_scale}
 use denote.Floats.{passes as passed-test}
-use borrow.Author.Rules.{rules}
 use Rattle.chain.proofs.take.Goals as goal
 use Rattle.chain.proofs.take.Goals.{Start}
 

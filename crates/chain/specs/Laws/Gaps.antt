@@ -12,7 +12,7 @@ use Rattle.speech_level_estimator.specs.Held.{HeldEstimator}
 use Rattle.speech_level_estimator.specs.Laws.Gaps as LevelGaps
 use Rattle.saturation_protector.specs.Protector as Headroom
 use Rattle.saturation_protector.specs.Calls as Headrooms
-use Rattle.saturation_protector.specs.Laws.Gaps as HeadroomGaps
+use Rattle.saturation_protector.proofs.Gaps as HeadroomGaps
 use Rattle.saturation_protector.specs.declared.Protector.{Protector}
 use Rattle.saturation_protector.specs.declared.Peaks.{Peaks as State}
 use Rattle.runs.specs.Runs.{keeps, throws, closed}

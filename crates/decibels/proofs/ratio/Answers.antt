@@ -1,5 +1,5 @@
 -- `decibels::ratio` meets its contract: the test of the gain is the definition's. Assumes nothing.
-use Rattle.std.proofs.Common.{sym, ◌∙◌, rules}
+use Rattle.std.proofs.Common.{sym, ◌∙◌}
 use Rattle.floats.specs.Laws.Kinds.{passed}
 use Rattle.decibels.specs.Ratio.{answer}
 use Rattle.decibels.proofs.ratio.Goals as goal

@@ -1,6 +1,6 @@
 -- `decibels::worked_out` meets its contract: x * 16.0 is exact, and what it is without its fraction indexes the two tables.
 -- Assumes nothing.
-use Rattle.std.proofs.Common.{◌≡◌, ℕ, ◌/◌, ◌^◌, ◌<◌, ◌≤◌, sym, ap, ◌∙◌, subst, arith, rules}
+use Rattle.std.proofs.Common.{◌≡◌, ℕ, ◌/◌, ◌^◌, ◌<◌, ◌≤◌, sym, ◌∙◌, subst, arith}
 use Rattle.floats.specs.Laws.Kinds.{passed}
 use Rattle.decibels.specs.Ratio.{steps, rest, A, B, ratio_of, whole_bits, sixteenth_bits}
 use Rattle.decibels.specs.Laws.Split.{Gain, accepted, castable, cut_off, steps_most}

@@ -1,10 +1,10 @@
 -- "With j = 16n+k, the ratio r keeps 10^j*(1-2^-12) <= r^320 < 10^(j+1), stated with r as a fraction of whole numbers": for every accepted gain.
 -- The third factor, 1+f*0.11512925, lies from 1 to its value at f = 1/16; at both ends a test over all 817 steps j is computed.
-use Rattle.std.specs.Prelude.{◌≡◌, ℕ, zero, suc, ◌+◌, ◌*◌, ◌/◌, ◌%◌, ◌^◌, ◌<◌, ◌≤◌, Bool, true, false, ◌&&◌, T, ltb, leb, List, [], ◌∷◌, length, ◌==◌, nat_eq, nat_le, nat_lt, refl, Float}
-use Rattle.std.proofs.Common.{sym, ap, ap₂, ◌∙◌, subst, inl, inr, suc-le-suc, le_trans, le_of_eq, le_of_lt, lt_of_lt_of_le, lt_of_le_of_lt, mul_assoc, mul_comm, mul_right_comm, mul-pos, mul-le-mul_right, mul-le-mul_left, mul-lt-mul_of_pos_right, le_of_mul-le-mul_right, lt_of_mul-lt-mul_right, pow-suc, eq-or-lt_of_le, le_of_suc-le-suc, not-suc-le-zero, arith, eqb→eq, leb→le, ltb→lt, lit<, lit≤}
+use Rattle.std.specs.Prelude.{◌≡◌, ℕ, zero, suc, ◌*◌, ◌/◌, ◌%◌, ◌^◌, ◌<◌, ◌≤◌, Bool, true, ◌&&◌, T, ltb, leb, [], ◌∷◌, ◌==◌, nat_eq, nat_le, nat_lt, refl, Float}
+use Rattle.std.proofs.Common.{sym, ap, ap₂, ◌∙◌, subst, inl, inr, suc-le-suc, le_trans, le_of_eq, lt_of_lt_of_le, lt_of_le_of_lt, mul_assoc, mul_right_comm, mul-le-mul_right, mul-le-mul_left, mul-lt-mul_of_pos_right, le_of_mul-le-mul_right, lt_of_mul-lt-mul_right, pow-suc, eq-or-lt_of_le, le_of_suc-le-suc, not-suc-le-zero, arith, eqb→eq, leb→le, ltb→lt}
 use Rattle.std.proofs.Math.Nat.{pow-zero, pow-le-pow_left, one-le-pow, mul-mul-mul_comm}
-use Rattle.std.specs.Float.{nan, binary32}
-use Rattle.std.specs.Float.Ieee.{le, lt, add, mul, fits, of_bits, size as bits}
+use Rattle.std.specs.Float.{binary32}
+use Rattle.std.specs.Float.Ieee.{lt, add, mul, fits, of_bits, size as bits}
 use Rattle.std.specs.Float.Ieee.Fits.{and_l, and_r, mul-fits}
 use Rattle.std.specs.Float.Ieee.Positive.{num, den, positive, positive-finite, den_pos, le→cross, between}
 use Rattle.std.specs.Float.Ieee.Scale.{finite}
@@ -13,7 +13,7 @@ use Rattle.rounding.specs.Laws.Order.{units→le}
 use Rattle.rounding.specs.Laws.Between.{scaled_between}
 use Rattle.rounding.specs.Laws.Exact.{constant_number}
 use Rattle.floats.specs.Choice.{larger, smaller}
-use Rattle.intervals.specs.Interval.{Expr, variable, constant, sum, product, eval, Box, box, bounded, Boxed, AllBoxed}
+use Rattle.intervals.specs.Interval.{Expr, variable, constant, sum, product, eval, Box, box, bounded, Boxed}
 use Rattle.intervals.specs.Laws.Interval.{interval}
 use Rattle.units.specs.Figures.{gain}
 use Rattle.decibels.specs.Ratio.{steps, rest, A, B, ratio_of, whole_bits, sixteenth_bits}

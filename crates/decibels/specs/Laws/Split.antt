@@ -1,16 +1,14 @@
 -- "x = n + k/16 + f with whole n, whole k below 16, and f below 1/16, all exact": nothing is rounded in the split.
-use Rattle.std.specs.Prelude.{◌≡◌, ℕ, zero, suc, ◌+◌, ◌-◌, ◌*◌, ◌/◌, ◌%◌, ◌^◌, ◌<◌, ◌≤◌, Bool, true, false, ◌&&◌, T, ◌⊎◌, ℤ, pos, refl, Float}
-use Rattle.std.proofs.Common.{sym, ap, ap₂, ◌∙◌, subst, inl, inr, le_of_suc-le-suc, lt_of_lt_of_le, lt_of_le_of_lt, mul_assoc, mul_comm, mul-one, add-zero, zero-mul, mul-le-mul_right, mul-lt-mul_of_pos_right, div-lt_iff_lt-mul, div-add-mod', mod-lt, mul-div_cancel, div-mul-le_self, sub-eq-zero_of_le, mul_right_comm, arith, lit<, lit≤, pow-add, pow_pos}
+use Rattle.std.specs.Prelude.{◌≡◌, ℕ, ◌+◌, ◌-◌, ◌*◌, ◌/◌, ◌%◌, ◌^◌, ◌<◌, ◌≤◌, true, false, T, ◌⊎◌, pos, refl, Float}
+use Rattle.std.proofs.Common.{sym, ap, ap₂, ◌∙◌, subst, inl, inr, le_of_suc-le-suc, lt_of_lt_of_le, lt_of_le_of_lt, add-zero, mul-le-mul_right, div-lt_iff_lt-mul, div-add-mod', mod-lt, mul_right_comm, arith, lit<, lit≤}
 use Rattle.std.proofs.Math.Nat.{sub-zero, mul-div-mul_right, zero-sub}
 use Rattle.std.specs.Float.{nan, inf, fin, binary32}
-use Rattle.std.specs.Float.Ieee.{up, down, fits, le, lt, mul, sub, of_int, of_bits, to_unsigned}
-use Rattle.std.specs.Float.Ieee.Digits.{back}
+use Rattle.std.specs.Float.Ieee.{up, down, fits, le, lt, mul, of_int, of_bits, to_unsigned}
 use Rattle.std.specs.Float.Ieee.Fits.{and_l, and_r, down_pos}
 use Rattle.std.specs.Float.Ieee.Nearest.{div_same}
-use Rattle.std.specs.Float.Ieee.Positive.{num, den}
-use Rattle.rounding.specs.Units.{U, limit, size, P, N, Number, Value, In, rnd, Rounding}
+use Rattle.rounding.specs.Units.{U, limit, size, P, N, Number, Value, rnd}
 use Rattle.rounding.specs.Laws.Rnd.{rnd_exact, rnd_zero}
-use Rattle.rounding.specs.Laws.Whole.{U_pos, limit_pos, whole, sides, digits_of, Digits}
+use Rattle.rounding.specs.Laws.Whole.{U_pos, limit_pos, whole, sides, digits_of}
 use Rattle.rounding.specs.Laws.Order.{between, le→units, units→lt}
 use Rattle.rounding.specs.Laws.Operations.{sub_above, mul_above}
 use Rattle.rounding.specs.Laws.Exact.{constant_number, whole_number, twofold, truncated, remainder_kept}

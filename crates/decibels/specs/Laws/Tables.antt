@@ -1,5 +1,5 @@
 -- Each entry of the two tables is the f32 nearest to its power: one test over each table, which the checker computes.
-use Rattle.std.specs.Prelude.{◌≡◌, ℕ, ◌+◌, ◌-◌, ◌*◌, ◌/◌, ◌^◌, ◌<◌, ◌≤◌, Bool, true, false, ◌&&◌, ◌||◌, T, ltb, leb, ◌⊎◌, List, map, ◌==◌, nat_eq, nat_le, nat_lt, refl, Float}
+use Rattle.std.specs.Prelude.{◌≡◌, ℕ, ◌+◌, ◌-◌, ◌*◌, ◌/◌, ◌^◌, ◌<◌, ◌≤◌, Bool, true, false, ◌&&◌, ◌||◌, T, ltb, leb, ◌⊎◌, map, ◌==◌, nat_eq, nat_le, nat_lt, Float}
 use Rattle.std.proofs.Math.Path.{sym, subst}
 use Rattle.std.proofs.Common.{ap, ◌∙◌, inl, inr, le_of_eq, lt_of_lt_of_le, one-mul, mul-le-mul_right, add-zero, pow_pos, leb→le, lit<, lit≤}
 use Rattle.std.proofs.Math.Nat.{le_trans, pow-le-pow_left}
@@ -9,7 +9,6 @@ use Rattle.std.specs.Float.{nan}
 use Rattle.std.specs.Float.Ieee.{binary32, lt, fits, of_bits, size as bits}
 use Rattle.std.specs.Float.Ieee.Fits.{and_l, and_r}
 use Rattle.std.specs.Float.Ieee.Scale.{finite}
-use Rattle.lists.specs.Entries.{every}
 use Rattle.lists.specs.Table.{at}
 use Rattle.rounding.specs.Units.{U, size, P, N, Number}
 use Rattle.rounding.specs.Laws.Order.{lt→units}

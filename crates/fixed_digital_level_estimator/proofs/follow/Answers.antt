@@ -1,5 +1,4 @@
 -- `fixed_digital_level_estimator::follow` meets its contract: the choice is the definition's. Assumes nothing.
-use borrow.Author.Rules.{rules}
 use Rattle.fixed_digital_level_estimator.specs.Envelope.{decayed}
 use Rattle.fixed_digital_level_estimator.proofs.follow.Goals as goal
 

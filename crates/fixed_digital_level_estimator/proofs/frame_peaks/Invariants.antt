@@ -1,29 +1,15 @@
 -- `fixed_digital_level_estimator::frame_peaks` meets its contract. The invariant: what is done, then the peaks of the sub-frames that are left, are all of
 -- them, where the sums are numbers; and what the highest peak and the sums tell of the samples. Assumes nothing.
-use mathlib.Core.Bool.{Bool, true, ◌&&◌}
-use mathlib.Core.List.{List, ◌∷◌, ◌++◌, append-nil}
-use mathlib.Core.Path.{◌≡◌, refl, sym, ap, ap₂, ◌∙◌}
-use Prim.Native.Nat.{ℕ, suc, ◌+◌, ◌*◌, ◌≤◌, ◌<◌, ◌-◌}
-use native.Mathlib.Nat.{mul-le-mul_right, le_of_eq}
-use native.Mathlib.Omega.{arith}
-use lib.Ieee.{Float, le}
-use lib.Ieee.Scale.{finite}
-use lib.ListN.{length, set, take, drop, replicate, length-set}
-use lib.Seq.{drop-drop, take_all}
-use borrow.Author.Rules.{rules}
-use Rattle.lists.specs.Each.{each_drop}
-use Rattle.lists.specs.Stores.{stores}
-use Rattle.rounding.specs.Loops.{Within}
-use Rattle.floats.specs.Choice.{larger}
-use Rattle.floats.specs.Laws.Kinds.{nought, passed}
-use Rattle.frames.specs.Samples.{largest_level, all_within}
-use Rattle.fixed_digital_level_estimator.specs.Range.{Held}
-use Rattle.fixed_digital_level_estimator.specs.Envelope.{silence, peak_from}
-use Rattle.fixed_digital_level_estimator.specs.Lanes.{Real, Raised, bound, column, peak}
-use Rattle.fixed_digital_level_estimator.specs.Laws.Lanes.{started, same_peak}
-use Rattle.fixed_digital_level_estimator.specs.Laws.Columns.{peaks_down, over_down, one_column, no_column}
-use Rattle.fixed_digital_level_estimator.specs.Laws.Tested.{Tested, tested_start, tested_next, test_real, tested}
-use Rattle.fixed_digital_level_estimator.specs.declared.Lanes.{Lanes}
+use mathlib.Core.List.{◌++◌}
+use mathlib.Core.Path.{◌≡◌}
+use Prim.Native.Nat.{◌*◌, ◌≤◌, ◌-◌}
+use lib.ListN.{length, take, drop, replicate}
+use Rattle.floats.specs.Laws.Kinds.{nought}
+use Rattle.fixed_digital_level_estimator.specs.Envelope.{silence}
+use Rattle.fixed_digital_level_estimator.specs.Lanes.{Real}
+use Rattle.fixed_digital_level_estimator.specs.Laws.Lanes.{started}
+use Rattle.fixed_digital_level_estimator.specs.Laws.Columns.{peaks_down}
+use Rattle.fixed_digital_level_estimator.specs.Laws.Tested.{Tested}
 use Rattle.fixed_digital_level_estimator.proofs.frame_peaks.Given as goal
 
 abbrev pub invariant-loop-k : goal.invariant-loop-k

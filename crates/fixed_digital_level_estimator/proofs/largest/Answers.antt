@@ -1,5 +1,4 @@
 -- `fixed_digital_level_estimator::largest` meets its contract: the calls are the definition's. Assumes nothing.
-use borrow.Author.Rules.{rules}
 use Rattle.fixed_digital_level_estimator.specs.Lanes.{peak}
 use Rattle.fixed_digital_level_estimator.proofs.largest.Goals as goal
 

@@ -2,11 +2,10 @@
 -- whole. The right neighbour that is read is not raised yet, since the loop goes up. Assumes nothing.
 use mathlib.Core.List.{List, [], ◌∷◌, ◌++◌}
 use mathlib.Core.Path.{◌≡◌, sym, ap, ◌∙◌}
-use Prim.Native.Nat.{ℕ, ◌+◌, ◌≤◌, ◌<◌, ◌-◌}
+use Prim.Native.Nat.{ℕ, ◌+◌, ◌≤◌, ◌<◌}
 use native.Mathlib.Omega.{arith}
 use lib.Ieee.{Float, nan}
 use lib.ListN.{length, get_or, take, drop, length-set, take-append-drop, drop_of_length-le}
-use borrow.Author.Rules.{rules}
 use Rattle.lists.specs.Loops.{in_place}
 use Rattle.lists.specs.Stores.{next}
 use Rattle.floats.specs.Choice.{larger}

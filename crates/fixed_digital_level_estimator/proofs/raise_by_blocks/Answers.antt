@@ -1,12 +1,11 @@
 -- `fixed_digital_level_estimator::raise_by_blocks` meets its contract. The invariant: the lanes are raised by what was passed, whole blocks. Assumes nothing.
-use mathlib.Core.Path.{◌≡◌, refl, sym, ap, ◌∙◌, subst}
+use mathlib.Core.Path.{◌≡◌, refl, subst}
 use mathlib.Core.List.{List}
 use Prim.Native.Nat.{ℕ, ◌+◌, ◌-◌, ◌%◌, ◌≤◌, ◌<◌}
 use native.Mathlib.Omega.{arith}
 use lib.Ieee.{Float}
 use lib.ListN.{length, take, drop, length-drop}
 use lib.Seq.{take_all, take-add, length-take-le}
-use borrow.Author.Rules.{rules}
 use Rattle.fixed_digital_level_estimator.specs.Lanes.{Raised}
 use Rattle.fixed_digital_level_estimator.specs.Laws.Lanes.{raised_none, raised_more}
 use Rattle.fixed_digital_level_estimator.specs.declared.Lanes.{Lanes}

@@ -8,7 +8,6 @@ use native.Mathlib.Omega.{arith}
 use lib.Ieee.{Float}
 use lib.ListN.{length, take, drop}
 use lib.Seq.{drop-drop}
-use borrow.Author.Rules.{rules}
 use Rattle.fixed_digital_level_estimator.specs.Lanes.{Raised, column}
 use Rattle.fixed_digital_level_estimator.specs.Laws.Lanes.{raised_none, raised_more}
 use Rattle.fixed_digital_level_estimator.specs.declared.Lanes.{Lanes}
@@ -58,29 +57,29 @@ loop-left-init c = (omega arith, omega arith, λ (r : Lanes) (h : _). h)
 pub overflow_add-to : goal.overflow_add-to
 overflow_add-to c =
     let r =
-        room c.loop-left.from c.loop-left.left c.args.channels c.args.samples c.args.at c.args.part (length c.args.frame.now)
-        (omega arith) c.loop-left.invariant.0 c.requires.0 c.loop-left.invariant.1 c.requires.1 in
+    room c.loop-left.from c.loop-left.left c.args.channels c.args.samples c.args.at c.args.part (length c.args.frame.now)
+    (omega arith) c.loop-left.invariant.0 c.requires.0 c.loop-left.invariant.1 c.requires.1 in
     omega (arith, r.inside)
 
 pub offset_bounds-frame-from : goal.offset_bounds-frame-from
 offset_bounds-frame-from c =
     let r =
-        room c.loop-left.from c.loop-left.left c.args.channels c.args.samples c.args.at c.args.part (length c.args.frame.now)
-        (omega arith) c.loop-left.invariant.0 c.requires.0 c.loop-left.invariant.1 c.requires.1 in
+    room c.loop-left.from c.loop-left.left c.args.channels c.args.samples c.args.at c.args.part (length c.args.frame.now)
+    (omega arith) c.loop-left.invariant.0 c.requires.0 c.loop-left.invariant.1 c.requires.1 in
     omega (arith, r.inside)
 
 pub slice_bounds-raise_by_part-end : goal.slice_bounds-raise_by_part-end
 slice_bounds-raise_by_part-end c =
     let r =
-        room c.loop-left.from c.loop-left.left c.args.channels c.args.samples c.args.at c.args.part (length c.args.frame.now)
-        (omega arith) c.loop-left.invariant.0 c.requires.0 c.loop-left.invariant.1 c.requires.1 in
+    room c.loop-left.from c.loop-left.left c.args.channels c.args.samples c.args.at c.args.part (length c.args.frame.now)
+    (omega arith) c.loop-left.invariant.0 c.requires.0 c.loop-left.invariant.1 c.requires.1 in
     r.inside
 
 pub overflow_add-from : goal.overflow_add-from
 overflow_add-from c =
     let r =
-        room c.loop-left.from c.loop-left.left c.args.channels c.args.samples c.args.at c.args.part (length c.args.frame.now)
-        (omega arith) c.loop-left.invariant.0 c.requires.0 c.loop-left.invariant.1 c.requires.1 in
+    room c.loop-left.from c.loop-left.left c.args.channels c.args.samples c.args.at c.args.part (length c.args.frame.now)
+    (omega arith) c.loop-left.invariant.0 c.requires.0 c.loop-left.invariant.1 c.requires.1 in
     omega (arith, r.whole, r.first)
 
 pub loop-left-preserved : goal.loop-left-preserved

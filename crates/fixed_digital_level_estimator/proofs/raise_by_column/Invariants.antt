@@ -1,16 +1,9 @@
 -- `fixed_digital_level_estimator::raise_by_column` meets its contract. The invariant: what the channels that are left make of the lanes, all channels make of
 -- those that came in. Assumes nothing.
 use mathlib.Core.Path.{◌≡◌}
-use mathlib.Core.List.{List}
-use Prim.Native.Nat.{ℕ, zero, suc, ◌+◌, ◌*◌, ◌-◌, ◌≤◌, ◌<◌}
-use native.Mathlib.Nat.{suc-mul}
-use native.Mathlib.Omega.{arith}
-use lib.Ieee.{Float}
-use lib.ListN.{length, take, drop}
-use lib.Seq.{drop-drop}
-use borrow.Author.Rules.{rules}
+use Prim.Native.Nat.{◌+◌, ◌*◌, ◌≤◌}
+use lib.ListN.{length, drop}
 use Rattle.fixed_digital_level_estimator.specs.Lanes.{Raised, column}
-use Rattle.fixed_digital_level_estimator.specs.Laws.Lanes.{raised_none, raised_more}
 use Rattle.fixed_digital_level_estimator.specs.declared.Lanes.{Lanes}
 use Rattle.fixed_digital_level_estimator.proofs.raise_by_column.Given as goal
 

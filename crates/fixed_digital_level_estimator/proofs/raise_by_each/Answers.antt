@@ -1,13 +1,12 @@
 -- `fixed_digital_level_estimator::raise_by_each` meets its contract. The invariant: the lanes are raised by what was passed. Assumes nothing.
 use mathlib.Core.Path.{◌≡◌, subst}
 use mathlib.Core.List.{List, [], ◌∷◌}
-use Prim.Native.Nat.{ℕ, ◌+◌, ◌-◌, ◌≤◌, ◌<◌}
+use Prim.Native.Nat.{ℕ, ◌+◌, ◌<◌}
 use native.Mathlib.Numerals.{add-one}
 use native.Mathlib.Omega.{arith}
 use lib.Ieee.{Float, nan, binary32, add}
 use lib.ListN.{length, get_or, take}
 use lib.Seq.{take_all, take-suc}
-use borrow.Author.Rules.{rules}
 use Rattle.floats.specs.Choice.{larger, smaller}
 use Rattle.fixed_digital_level_estimator.specs.Range.{Held}
 use Rattle.fixed_digital_level_estimator.specs.Lanes.{Raised}

@@ -1,17 +1,8 @@
 -- `fixed_digital_level_estimator::raise_by_each` meets its contract. The invariant: the lanes are raised by what was passed. Assumes nothing.
-use mathlib.Core.Path.{◌≡◌, subst}
-use mathlib.Core.List.{List, [], ◌∷◌}
-use Prim.Native.Nat.{ℕ, ◌+◌, ◌-◌, ◌≤◌, ◌<◌}
-use native.Mathlib.Numerals.{add-one}
-use native.Mathlib.Omega.{arith}
-use lib.Ieee.{Float, nan, binary32, add}
-use lib.ListN.{length, get_or, take}
-use lib.Seq.{take_all, take-suc}
-use borrow.Author.Rules.{rules}
-use Rattle.floats.specs.Choice.{larger, smaller}
-use Rattle.fixed_digital_level_estimator.specs.Range.{Held}
+use Prim.Native.Nat.{◌-◌, ◌≤◌}
+use lib.Ieee.{Float}
+use lib.ListN.{length, take}
 use Rattle.fixed_digital_level_estimator.specs.Lanes.{Raised}
-use Rattle.fixed_digital_level_estimator.specs.Laws.Lanes.{by_one, raised_none, raised_one, raised_more}
 use Rattle.fixed_digital_level_estimator.specs.declared.Lanes.{Lanes}
 use Rattle.fixed_digital_level_estimator.proofs.raise_by_each.Given as goal
 

@@ -1,5 +1,4 @@
 -- `fixed_digital_level_estimator::raise_by_four` meets its contract. Assumes nothing.
-use borrow.Author.Rules.{rules}
 use Rattle.fixed_digital_level_estimator.specs.Laws.Lanes.{raised_four}
 use Rattle.fixed_digital_level_estimator.proofs.raise_by_four.Goals as goal
 

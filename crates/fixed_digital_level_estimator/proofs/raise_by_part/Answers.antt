@@ -1,13 +1,12 @@
 -- `fixed_digital_level_estimator::raise_by_part` meets its contract: the whole blocks, and then the rest. Assumes nothing.
-use mathlib.Core.Path.{◌≡◌, refl, sym, ap, ◌∙◌, subst}
+use mathlib.Core.Path.{◌≡◌, refl, sym, subst}
 use mathlib.Core.List.{List}
-use Prim.Native.Nat.{ℕ, ◌+◌, ◌-◌, ◌%◌, ◌≤◌, ◌<◌}
+use Prim.Native.Nat.{ℕ, ◌-◌, ◌%◌}
 use native.Mathlib.Nat.{le_of_eq}
 use native.Mathlib.Omega.{arith}
 use lib.Ieee.{Float}
 use lib.ListN.{length, take, drop, length-drop, take-append-drop}
 use lib.Seq.{take_all, length-take-le}
-use borrow.Author.Rules.{rules}
 use Rattle.fixed_digital_level_estimator.specs.Lanes.{Raised}
 use Rattle.fixed_digital_level_estimator.specs.Laws.Lanes.{raised_more}
 use Rattle.fixed_digital_level_estimator.specs.declared.Lanes.{Lanes}

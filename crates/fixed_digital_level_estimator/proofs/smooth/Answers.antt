@@ -1,11 +1,11 @@
 -- `fixed_digital_level_estimator::smooth` meets its contract. The invariant: what is done, then the smoothing of what is left from the last value
 -- on, is the smoothing of the whole. Assumes nothing.
-use mathlib.Core.List.{List, ◌∷◌, ◌++◌}
+use mathlib.Core.List.{List, ◌∷◌}
 use mathlib.Core.Path.{◌≡◌, refl, sym, ap, ◌∙◌}
-use Prim.Native.Nat.{◌+◌, ◌≤◌, ◌-◌}
+use Prim.Native.Nat.{◌+◌}
 use native.Mathlib.Omega.{arith}
 use lib.Ieee.{Float, nan}
-use lib.ListN.{length, take, drop, length-set}
+use lib.ListN.{length, drop, length-set}
 use borrow.Author.Rules.{rules}
 use Rattle.lists.specs.Loops.{across, across_done}
 use Rattle.fixed_digital_level_estimator.specs.Envelope.{smoothed, linear}

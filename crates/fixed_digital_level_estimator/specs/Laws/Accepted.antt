@@ -1,6 +1,6 @@
 -- What is known where a state passes, and where a frame is accepted.
 -- Assumes nothing.
-use Rattle.std.specs.Prelude.{◌≡◌, true, ◌&&◌, List, [], ◌∷◌, ℕ, ◌*◌, ◌/◌, eqb, length, Float}
+use Rattle.std.specs.Prelude.{◌≡◌, true, List, [], ◌∷◌, ℕ, ◌*◌, ◌/◌, eqb, length, Float}
 use Rattle.std.proofs.Common.{◌∙◌, arith, eqb-true}
 use Rattle.units.specs.Figures.{curve_level}
 use Rattle.units.specs.Replies.{done}

@@ -1,9 +1,9 @@
 -- Four lanes find what one would: none of what they found is more than n units from zero exactly where no sample is, for each n. So the peak is
 -- that of the samples, since two magnitudes with the same units are the same. And where a sum is a number, each sample is.
 -- Assumes nothing.
-use Rattle.std.specs.Prelude.{◌≡◌, ◌⊎◌, Bool, not, cond, List, [], ◌∷◌, ◌++◌, ℕ, zero, suc, ◌+◌, ◌-◌, ◌*◌, ◌^◌, ◌≤◌, ◌<◌, ℤ, pos, T, length, get_or}
+use Rattle.std.specs.Prelude.{◌≡◌, ◌⊎◌, Bool, not, cond, List, [], ◌∷◌, ◌++◌, ℕ, zero, suc, ◌+◌, ◌-◌, ◌*◌, ◌≤◌, ◌<◌, ℤ, pos, T, length, get_or}
 use Rattle.std.proofs.Math.Path.{refl, ap}
-use Rattle.std.proofs.Common.{sym, ap₂, ◌∙◌, subst, inl, inr, le_antisymm, le_trans, le_of_eq, lt_of_le_of_lt, add-zero, zero-add, suc-ne-zero, arith, lit<}
+use Rattle.std.proofs.Common.{sym, ◌∙◌, subst, inl, inr, le_antisymm, le_trans, le_of_eq, lt_of_le_of_lt, add-zero, zero-add, suc-ne-zero, arith, lit<}
 use Rattle.std.proofs.Math.Bool.{true, false}
 use Rattle.std.specs.Bool.{beq}
 use Rattle.std.proofs.Math.Nat.{suc_inj}
@@ -11,7 +11,7 @@ use Rattle.std.specs.Float.Ieee.{Float, fin, binary32, fits, lt, of_bits, add, s
 use Rattle.std.specs.Float.{nan, inf}
 use Rattle.std.specs.Float.Ieee.Scale.{finite}
 use Rattle.lists.specs.Each.{Each, each_append, each_so}
-use Rattle.rounding.specs.Units.{P, N, U, size, limit, Number, Value, rnd}
+use Rattle.rounding.specs.Units.{P, N, U, size, Number, rnd}
 use Rattle.rounding.specs.Loops.{Within}
 use Rattle.rounding.specs.Laws.Whole.{sides, P-limit}
 use Rattle.rounding.specs.Laws.Rnd.{rnd_mono}
@@ -23,10 +23,9 @@ use Rattle.floats.specs.Choice.{larger, smaller}
 use Rattle.floats.specs.Kinds.{magnitude}
 use Rattle.floats.specs.Laws.Kinds.{nought, larger_side}
 use Rattle.frames.specs.Squares.{without_sign}
-use Rattle.frames.specs.Samples.{largest_level}
 use Rattle.fixed_digital_level_estimator.specs.Envelope.{peak_from}
 use Rattle.fixed_digital_level_estimator.specs.Range.{Held}
-use Rattle.fixed_digital_level_estimator.specs.Lanes.{Plain, Upper, Lower, Signed, Below, Real, Small, Found, Raised, bound, most, peak}
+use Rattle.fixed_digital_level_estimator.specs.Lanes.{Plain, Upper, Lower, Signed, Below, Real, Small, Raised, bound, most, peak}
 use Rattle.fixed_digital_level_estimator.specs.declared.Lanes.{Lanes}
 
 -- ---- two magnitudes with the same units are the same

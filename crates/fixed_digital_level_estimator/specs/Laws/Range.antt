@@ -1,8 +1,8 @@
 -- The envelope stays from 0 to 33554432: the magnitudes of accepted samples do, the larger of two does, and smoothing lies between the two ends, since its
 -- two constants make 1 together.
 -- Assumes nothing.
-use Rattle.std.specs.Prelude.{◌≡◌, refl, Bool, true, false, cond, List, [], ◌∷◌, ℕ, zero, suc, ◌<◌, ℤ, T, Float, length, get_or, take, drop}
-use Rattle.std.proofs.Common.{sym, ◌∙◌, not-suc-le-zero, le_of_suc-le-suc, arith}
+use Rattle.std.specs.Prelude.{◌≡◌, refl, Bool, true, false, cond, List, [], ◌∷◌, ℕ, zero, suc, ℤ, T, Float, take, drop}
+use Rattle.std.proofs.Common.{sym, ◌∙◌, arith}
 use Rattle.std.proofs.lemmas.Bool.{false≢true}
 use Rattle.std.specs.Float.{nan, inf, fin, binary32}
 use Rattle.std.specs.Float.Ieee.{le, lt, eq, add, mul, fits, of_bits, size as bits}

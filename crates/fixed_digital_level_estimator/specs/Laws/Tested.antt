@@ -1,21 +1,21 @@
 -- A frame's samples are tested while its peaks are found: all are within the bound exactly where no peak is above it and each sum is a number.
 -- Assumes nothing.
-use Rattle.std.specs.Prelude.{◌≡◌, refl, Bool, true, false, ◌&&◌, List, [], ◌∷◌, ℕ, zero, suc, ◌*◌, ◌≤◌, T, Float, length, drop}
-use Rattle.std.proofs.Common.{sym, ap, ◌∙◌, le_trans, le_of_eq, arith}
+use Rattle.std.specs.Prelude.{◌≡◌, refl, Bool, true, false, ◌&&◌, List, [], ◌∷◌, ℕ, suc, ◌*◌, ◌≤◌, T, Float, length, drop}
+use Rattle.std.proofs.Common.{le_trans, arith}
 use Rattle.std.specs.Float.{nan, inf, fin, binary32}
 use Rattle.std.specs.Float.Ieee.{fits, le}
 use Rattle.std.specs.Float.Ieee.Fits.{and_i, and_l, and_r}
 use Rattle.std.specs.Float.Ieee.Scale.{finite}
 use Rattle.lists.specs.Each.{Each}
-use Rattle.rounding.specs.Units.{P, N, Number}
+use Rattle.rounding.specs.Units.{P, Number}
 use Rattle.rounding.specs.Loops.{Within}
 use Rattle.rounding.specs.Laws.Order.{same_test, le→units, units→le}
 use Rattle.floats.specs.Choice.{larger}
 use Rattle.floats.specs.Kinds.{magnitude}
-use Rattle.floats.specs.Laws.Kinds.{nought, passed}
+use Rattle.floats.specs.Laws.Kinds.{nought}
 use Rattle.frames.specs.Samples.{largest_level, within, all_within}
 use Rattle.fixed_digital_level_estimator.specs.Range.{Held}
-use Rattle.fixed_digital_level_estimator.specs.Lanes.{Upper, Signed, Below, Real, Small, Found, Raised, bound, most, peak, column}
+use Rattle.fixed_digital_level_estimator.specs.Lanes.{Upper, Real, Small, Found, Raised, bound, most, peak, column}
 use Rattle.fixed_digital_level_estimator.specs.Laws.Range.{end_units, high_number, sample_level}
 use Rattle.fixed_digital_level_estimator.specs.Laws.Lanes.{Higher, higher, none_below, plain_zero, plain_magnitude, magnitude_under, magnitude_over, nought_units, started, started_signed, started_below, peak_plain, peak_under, peak_over}
 use Rattle.fixed_digital_level_estimator.specs.Laws.Columns.{EachColumn, each_column, covered}

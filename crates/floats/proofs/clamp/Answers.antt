@@ -1,6 +1,5 @@
 -- `floats::clamp` meets its contract: what the two calls ensure, one after the other. Assumes nothing.
-use borrow.Author.Rules.{rules}
-use Rattle.floats.specs.Choice.{larger, smaller, clamp}
+use Rattle.floats.specs.Choice.{clamp}
 use Rattle.floats.proofs.clamp.Goals as goal
 
 pub returns : goal.returns

@@ -1,5 +1,4 @@
 -- `floats::larger` meets its contract: the choice is the definition's. Assumes nothing.
-use borrow.Author.Rules.{rules}
 use Rattle.floats.specs.Choice.{larger}
 use Rattle.floats.proofs.larger.Goals as goal
 

@@ -1,6 +1,5 @@
 -- `floats::magnitude` meets its contract: the larger of 0 - x and x is x without its sign. Assumes nothing.
 use mathlib.Core.Path.{◌∙◌}
-use borrow.Author.Rules.{rules}
 use Rattle.floats.specs.Laws.Kinds.{passed, larger_side}
 use Rattle.floats.proofs.magnitude.Goals as goal
 

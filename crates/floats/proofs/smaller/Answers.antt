@@ -1,5 +1,4 @@
 -- `floats::smaller` meets its contract: the choice is the definition's. Assumes nothing.
-use borrow.Author.Rules.{rules}
 use Rattle.floats.specs.Choice.{smaller}
 use Rattle.floats.proofs.smaller.Goals as goal
 

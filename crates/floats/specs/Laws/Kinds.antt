@@ -1,15 +1,15 @@
 -- How the kinds of a number are told by operations: `self_difference`, `reciprocal_sign`, `turned`.
-use Rattle.std.specs.Prelude.{◌≡◌, Bool, true, not, ◌&&◌, cond, ℕ, zero, suc, ◌+◌, ◌-◌, ◌*◌, ◌/◌, ◌^◌, ◌≤◌, ◌<◌, ◌⊎◌, ℤ, pos, negsuc, T, ltb, eqb, Float}
+use Rattle.std.specs.Prelude.{◌≡◌, Bool, true, ◌&&◌, cond, ℕ, zero, suc, ◌+◌, ◌-◌, ◌<◌, ◌⊎◌, ℤ, pos, T, ltb, eqb, Float}
 use Rattle.std.proofs.Math.Path.{refl}
 use Rattle.std.proofs.Common.{sym, ap, ap₂, ◌∙◌, subst, inl, inr, add-zero, zero-add, lt_irrefl, arith, lit<, lt-ltb, ne_eqb}
 use Rattle.std.proofs.Math.Bool.{false}
 use Rattle.std.proofs.Math.Nat.{sub-zero, zero-sub}
 use Rattle.std.proofs.Math.Dec.{leb-suc-zero, eqb-suc-zero}
 use Rattle.std.specs.Float.{nan, inf, fin, binary32}
-use Rattle.std.specs.Float.Ieee.{sub, add, neg, div, lt, eq, fits, of_bits, round, to_bits}
+use Rattle.std.specs.Float.Ieee.{sub, add, neg, div, lt, eq, fits, of_bits}
 use Rattle.std.specs.Float.Ieee.Scale.{finite}
-use Rattle.std.specs.Float.Ieee.Bits.{of_bits-to_bits, of_bits-fits}
-use Rattle.rounding.specs.Units.{U, limit, size, P, N, Number, Value, rnd, Rounding}
+use Rattle.std.specs.Float.Ieee.Bits.{of_bits-fits}
+use Rattle.rounding.specs.Units.{limit, size, P, N, Number, Value, rnd}
 use Rattle.floats.specs.Choice.{larger}
 use Rattle.floats.specs.Kinds.{magnitude, is_negative_zero}
 use Rattle.rounding.specs.Laws.Rnd.{rnd_zero}

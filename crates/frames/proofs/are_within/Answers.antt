@@ -1,5 +1,4 @@
 -- `frames::are_within` meets its contract: a bound that equals one of the two is that one, and its square tells the same. Assumes nothing.
-use borrow.Author.Rules.{rules}
 use mathlib.Core.Path.{◌≡◌}
 use Rattle.floats.specs.Laws.Kinds.{passed}
 use Rattle.frames.specs.Samples.{largest_input, largest_level}

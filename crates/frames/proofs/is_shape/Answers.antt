@@ -4,7 +4,6 @@ use mathlib.Core.Path.{◌≡◌, refl}
 use Prim.Native.Nat.{ℕ, ◌*◌, ◌≤◌}
 use native.Mathlib.Nat.{mul-le-mul, lt_of_le_of_lt}
 use lib.Dec.{leb, eqb, lit<, lit≤}
-use borrow.Author.Rules.{rules}
 use Rattle.frames.specs.Facts.{sizes_facts}
 use Rattle.frames.specs.Shape.{is_samples, is_shape}
 use Rattle.frames.proofs.is_shape.Goals as goal

@@ -1,5 +1,4 @@
 -- `frames::is_within` meets its contract. Assumes nothing.
-use borrow.Author.Rules.{rules}
 use Rattle.frames.specs.Samples.{within}
 use Rattle.frames.proofs.is_within.Goals as goal
 

@@ -5,7 +5,6 @@ use mathlib.Core.Path.{◌≡◌}
 use Prim.Native.Nat.{ℕ}
 use lib.Ieee.{Float}
 use lib.ListN.{length}
-use borrow.Author.Rules.{rules}
 use Rattle.units.specs.Replies.{refusal}
 use Rattle.frames.specs.Shape.{is_shape}
 use Rattle.frames.specs.Samples.{all_within}

@@ -1,7 +1,6 @@
 -- `gain_applier::clip_part` meets its contract, by the laws of what is done in blocks. Assumes nothing.
-use Rattle.std.proofs.Common.{◌-◌, [], length, arith, rules}
-use Rattle.gain_applier.specs.Sound.{clipped}
-use Rattle.frames.specs.Blocks.{Blocks, blocks_begin, blocks_go_on, blocks_end, alone}
+use Rattle.std.proofs.Common.{arith}
+use Rattle.frames.specs.Blocks.{blocks_begin, blocks_go_on, blocks_end}
 use Rattle.gain_applier.specs.Laws.Blocks.{clipped_split}
 use Rattle.gain_applier.proofs.clip_part.Goals as goal
 

@@ -1,5 +1,5 @@
 -- `gain_applier::clip_some` meets its contract. The invariant: what is done, then the definition on what is left. Assumes nothing.
-use Rattle.std.proofs.Common.{◌≡◌, ◌+◌, ◌-◌, ◌≤◌, List, ◌++◌, length, take, drop, sym, refl, ◌∙◌, arith, length-set, rules}
+use Rattle.std.proofs.Common.{sym, refl, ◌∙◌, arith, length-set}
 use lib.Ieee.{nan}
 use Rattle.lists.specs.Loops.{in_place, in_place_done}
 use Rattle.gain_applier.specs.Sound.{clipped}

@@ -1,5 +1,5 @@
 -- `gain_applier::fill_gains` meets its contract. The invariant: what is filled, then the gains that are left, from the next one. Assumes nothing.
-use Rattle.std.proofs.Common.{◌≡◌, ℕ, ◌+◌, ◌-◌, ◌<◌, ◌≤◌, List, ◌++◌, length, take, drop, sym, refl, ap, ◌∙◌, ap₂, append_assoc, arith, length-drop, length-take, length-take-le, rules}
+use Rattle.std.proofs.Common.{◌≡◌, ℕ, ◌+◌, ◌-◌, ◌≤◌, List, ◌++◌, length, take, drop, refl, ap, ◌∙◌, ap₂, append_assoc, arith, length-drop, length-take-le}
 use native.Mathlib.Nat.{sub-zero}
 use lib.Ieee.{Float}
 use Rattle.frames.specs.Walk.{lent, given_back, block_length, block_cut, block_last, block_ends}

@@ -1,8 +1,5 @@
 -- `gain_applier::fill_some` meets its contract. The invariant: what is filled, then the gains that are left, from the gain as it is now. Assumes nothing.
-use Rattle.std.proofs.Common.{◌≡◌, ◌+◌, ◌-◌, ◌≤◌, List, ◌++◌, length, take, drop, sym, refl, ap, ◌∙◌, arith, length-set, rules}
-use lib.Ieee.{Float, nan, binary32, add}
-use Rattle.lists.specs.Stores.{next, after_store}
-use Rattle.lists.specs.Loops.{in_place, in_place_done, scan_done}
+use Rattle.std.proofs.Common.{◌≡◌, ◌-◌, ◌≤◌, ◌++◌, length, take, drop}
 use Rattle.gain_applier.specs.Gains.{gains_from, gain_after}
 use Rattle.gain_applier.proofs.fill_some.Given as goal
 

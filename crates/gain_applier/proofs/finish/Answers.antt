@@ -1,5 +1,5 @@
 -- `gain_applier::finish` meets its contract. Assumes nothing.
-use Rattle.std.proofs.Common.{◌≡◌, true, false, rules}
+use Rattle.std.proofs.Common.{◌≡◌, true, false}
 use Rattle.gain_applier.specs.Sound.{finished}
 use Rattle.gain_applier.proofs.finish.Goals as goal
 

@@ -1,5 +1,5 @@
 -- `gain_applier::inverse_of` meets its contract. Assumes nothing.
-use Rattle.std.proofs.Common.{to_z-of_z, rules}
+use Rattle.std.proofs.Common.{to_z-of_z}
 use Rattle.gain_applier.specs.Applier.{inverse_of}
 use Rattle.gain_applier.proofs.inverse_of.Goals as goal
 

@@ -1,7 +1,5 @@
 -- `gain_applier::is_remembered` meets its contract. Assumes nothing.
-use Rattle.std.proofs.Common.{◌≡◌, ℕ, ◌^◌, ◌<◌, Bool, true, false, T, ℤ, pos, nat_abs, sym, ap, ◌∙◌, subst, arith, to_z-of_z, w64, Fits, rules}
-use lib.Signed.{lt_z, non_neg}
-use Rattle.frames.specs.Shape.{is_samples}
+use Rattle.std.proofs.Common.{ℕ, ◌^◌, ◌<◌, sym, ◌∙◌, arith, to_z-of_z}
 use Rattle.gain_applier.proofs.Signed.{Whole, below_zero, not_below_zero}
 use Rattle.gain_applier.proofs.is_remembered.Goals as goal
 use Rattle.gain_applier.proofs.is_remembered.Goals.{Else-samples-lt0}

@@ -1,8 +1,7 @@
 -- `gain_applier::multiply` meets its contract, by the laws of what is done in blocks. Assumes nothing.
-use Rattle.std.proofs.Common.{◌-◌, length, arith, length-drop, rules}
+use Rattle.std.proofs.Common.{arith, length-drop}
 use Rattle.frames.specs.Walk.{block_last}
-use Rattle.frames.specs.Blocks.{Blocks, blocks_begin, blocks_go_on, blocks_end}
-use Rattle.gain_applier.specs.Gains.{multiplied}
+use Rattle.frames.specs.Blocks.{blocks_begin, blocks_go_on, blocks_end}
 use Rattle.gain_applier.specs.Laws.Blocks.{multiplied_split}
 use Rattle.gain_applier.proofs.multiply.Goals as goal
 

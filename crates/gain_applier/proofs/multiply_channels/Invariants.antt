@@ -1,6 +1,5 @@
 -- `gain_applier::multiply_channels` meets its contract, by the laws of the walk over what is done to a part. Assumes nothing.
-use Rattle.std.proofs.Common.{arith, length-drop, length-take}
-use Rattle.frames.specs.Walk.{Walking, walk_begins, walk_room, walk_goes_on, walk_ends}
+use Rattle.frames.specs.Walk.{Walking}
 use Rattle.gain_applier.specs.Gains.{multiplied}
 use Rattle.gain_applier.proofs.multiply_channels.Given as goal
 

@@ -1,6 +1,6 @@
 -- `gain_applier::multiply_some` meets its contract. The invariant: what is done, then the definition on what is left, by the gains that are left. Assumes nothing.
-use Rattle.std.proofs.Common.{◌≡◌, ◌+◌, ◌-◌, ◌<◌, ◌≤◌, List, ◌++◌, length, take, drop, sym, refl, ap, ◌∙◌, arith, length-set, rules}
-use lib.Ieee.{Float, nan}
+use Rattle.std.proofs.Common.{◌+◌, ◌<◌, length, drop, sym, refl, ◌∙◌, arith, length-set}
+use lib.Ieee.{nan}
 use Rattle.lists.specs.Loops.{in_place, in_place_done}
 use Rattle.lists.specs.Stores.{next}
 use Rattle.gain_applier.specs.Gains.{multiplied}

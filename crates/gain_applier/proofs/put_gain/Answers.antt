@@ -1,5 +1,4 @@
 -- `gain_applier::put_gain` meets its contract: each branch is a case of the definition. Assumes nothing.
-use Rattle.std.proofs.Common.{sym, ◌∙◌, rules}
 use Rattle.gain_applier.specs.Sound.{gained}
 use Rattle.gain_applier.proofs.put_gain.Goals as goal
 

@@ -1,5 +1,5 @@
 -- `gain_applier::ramp_by` meets its contract: a part that is multiplied by as many gains is ramped. Assumes nothing.
-use Rattle.std.proofs.Common.{◌≡◌, ℕ, List, length, sym, ap, ◌∙◌, le_of_eq, rules}
+use Rattle.std.proofs.Common.{ℕ, List, length, sym, ap, ◌∙◌, le_of_eq}
 use lib.Ieee.{Float}
 use Rattle.frames.specs.Parts.{each_part}
 use Rattle.frames.specs.Walk.{each_part_same}

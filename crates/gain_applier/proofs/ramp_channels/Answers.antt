@@ -1,5 +1,5 @@
 -- `gain_applier::ramp_channels` meets its contract: there is room for the gains of a channel. Assumes nothing.
-use Rattle.std.proofs.Common.{◌≡◌, ℕ, ◌≤◌, List, length, take, sym, refl, arith, length-take, rules}
+use Rattle.std.proofs.Common.{◌≡◌, ℕ, ◌≤◌, List, length, take, sym, refl, arith, length-take}
 use lib.Ieee.{Float}
 use Rattle.gain_applier.proofs.ramp_channels.Goals as goal
 

@@ -1,7 +1,6 @@
 -- `gain_applier::scale_channels` meets its contract, by the laws of the walk over what is done to a part. Assumes nothing.
-use Rattle.frames.specs.Walk.{Walking, walk_begins, walk_room, walk_goes_on, walk_ends}
-use Rattle.gain_applier.specs.Sound.{scaled}
-use Rattle.std.proofs.Common.{arith, rules}
+use Rattle.frames.specs.Walk.{walk_begins, walk_room, walk_goes_on, walk_ends}
+use Rattle.std.proofs.Common.{arith}
 use Rattle.gain_applier.proofs.scale_channels.Goals as goal
 
 pub loop-left-init : goal.loop-left-init

@@ -1,7 +1,5 @@
 -- `gain_applier::scale_some` meets its contract. The invariant: what is done, then the definition on what is left. Assumes nothing.
-use Rattle.std.proofs.Common.{◌≡◌, ◌+◌, ◌-◌, ◌≤◌, List, ◌++◌, length, take, drop, sym, refl, ◌∙◌, arith, length-set, rules}
-use lib.Ieee.{nan}
-use Rattle.lists.specs.Loops.{in_place, in_place_done}
+use Rattle.std.proofs.Common.{◌≡◌, ◌-◌, ◌≤◌, ◌++◌, length, take, drop}
 use Rattle.gain_applier.specs.Sound.{scaled}
 use Rattle.gain_applier.proofs.scale_some.Given as goal
 

@@ -1,6 +1,6 @@
 -- What the applier makes of samples of magnitude up to 65536: with factors up to 355 none of magnitude above 33554432 comes out;
 -- with factors up to 512 no NaN comes out, and so each clipped sample lies between -32768 and 32767.
-use Rattle.std.specs.Prelude.{◌≡◌, ℕ, zero, suc, ◌+◌, ◌*◌, ◌<◌, ◌≤◌, Bool, true, false, cond, ◌||◌, T, ◌⊎◌, List, [], ◌∷◌, ◌++◌, length, take, drop, ℤ, pos, refl}
+use Rattle.std.specs.Prelude.{◌≡◌, ℕ, zero, suc, ◌+◌, ◌*◌, ◌<◌, ◌≤◌, Bool, true, false, cond, ◌||◌, T, ◌⊎◌, List, [], ◌∷◌, length, take, drop, ℤ, pos, refl}
 use Rattle.std.proofs.Common.{sym, ◌∙◌, inl, inr, suc-le-suc, le_trans, mul-le-mul_right, mul-le-mul_left, zero-lt-suc, add-zero, zero-add, arith, length-take}
 use Rattle.std.proofs.lemmas.Bool.{false≢true}
 use Rattle.std.specs.Float.Ieee.{Float, binary32, of_bits, add, mul, le, lt, eq, fits, is_nan}

@@ -7,7 +7,7 @@ use Rattle.lists.specs.Tests.{each_of}
 use Rattle.runs.specs.Runs.{speech}
 use Rattle.speech_level_estimator.specs.Laws.Again.{sound}
 use Rattle.speech_level_estimator.specs.Laws.Gaps as LevelGaps
-use Rattle.saturation_protector.specs.Laws.Gaps as HeadroomGaps
+use Rattle.saturation_protector.proofs.Gaps as HeadroomGaps
 use Rattle.adaptive_digital_gain_controller.specs.Controller as Gain
 use Rattle.adaptive_digital_gain_controller.specs.Calls.{with_applier}
 use Rattle.adaptive_digital_gain_controller.specs.Laws.Waiting.{closed_waits_again}

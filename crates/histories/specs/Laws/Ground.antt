@@ -8,8 +8,8 @@ use Rattle.units.specs.declared.settings.Settings.{Settings}
 use Rattle.runs.specs.Runs.{speech, longer, closed, framed}
 use Rattle.runs.specs.Histories.{Settled}
 use Rattle.runs.specs.Laws.Counts.{held, held_longer, held_below, held_at}
-use Rattle.runs.specs.Laws.Short.{framed_settled}
-use Rattle.runs.specs.Laws.Near.{near_itself}
+use Rattle.runs.proofs.Short.{framed_settled}
+use Rattle.runs.proofs.Near.{near_itself}
 use Rattle.speech_level_estimator.specs.Average as Average
 use Rattle.speech_level_estimator.specs.Estimator as Level
 use Rattle.saturation_protector.specs.Peaks as Peaks
@@ -35,7 +35,7 @@ pub record Ground (t : ℕ) (c : Chain) : Type 0 where
 
 -- behind k adjacent speech frames: the counts are k, held at the threshold, and so many frames less are still to come
 pub record Good (t k : ℕ) (c : Chain) : Type 0 where
-  pub ground : Ground t c
+  pub on_ground : Ground t c
   pub level_count : c.estimator.count ≡ held t k
   pub headroom_count : c.protector.count ≡ held t k
   pub waiting : c.controller.waiting ≡ t - held t k
@@ -45,7 +45,7 @@ pub new_good : (s : Settings) (t samples capacity : ℕ) → 0 < t → Good t 0 
 unfolding fresh Level.fresh Headroom.fresh Gain.fresh
 new_good s t samples capacity some =
     record {
-      ground =
+      on_ground =
           record {
             level = refl;
             headroom = refl;
@@ -123,10 +123,10 @@ step_good t k c two h e =
     let some : 0 < t = omega (arith, two) in
     let b = is_speech e in
     record {
-      ground = step_ground t c two h.ground e;
-      level_count = level_counts t c two h.ground e ∙ ap (λ (z : ℕ). cond b (longer t z) 0) h.level_count ∙ counts_on b t k some;
-      headroom_count = headroom_counts t c two h.ground e ∙ ap (λ (z : ℕ). cond b (longer t z) 0) h.headroom_count ∙ counts_on b t k some;
-      waiting = gain_waits t c two h.ground e ∙ ap (λ (z : ℕ). waits b t z) h.waiting ∙ waits_on b t k some;
+      on_ground = step_ground t c two h.on_ground e;
+      level_count = level_counts t c two h.on_ground e ∙ ap (λ (z : ℕ). cond b (longer t z) 0) h.level_count ∙ counts_on b t k some;
+      headroom_count = headroom_counts t c two h.on_ground e ∙ ap (λ (z : ℕ). cond b (longer t z) 0) h.headroom_count ∙ counts_on b t k some;
+      waiting = gain_waits t c two h.on_ground e ∙ ap (λ (z : ℕ). waits b t z) h.waiting ∙ waits_on b t k some;
     }
 
 -- After an event that is not speech no run is open, whatever the counts were.
@@ -134,7 +134,7 @@ pub closed_good : (t : ℕ) (c : Chain) → 1 < t → Ground t c → (e : Event)
 closed_good t c two h e silent =
     let zero : 0 ≡ held t 0 = sym (held_below t 0 (omega (arith, two))) in
     record {
-      ground = step_ground t c two h e;
+      on_ground = step_ground t c two h e;
       level_count = level_counts t c two h e ∙ rw silent zero;
       headroom_count = headroom_counts t c two h e ∙ rw silent zero;
       waiting = gain_waits t c two h e ∙ closed_waits_again (is_speech e) t c.controller.waiting silent ∙ omega (arith, zero);
@@ -149,27 +149,27 @@ good_beside t k c below h =
     record {
       level =
           record {
-            first = h.ground.level;
-            second = h.ground.level;
+            first = h.on_ground.level;
+            second = h.on_ground.level;
             settings = refl;
             initial = refl;
-            near = near_itself Average.level t (shown_level c.estimator) h.ground.level_settled (omega (arith, level, below));
+            near = near_itself Average.level t (shown_level c.estimator) h.on_ground.level_settled (omega (arith, level, below));
           };
       level_count = level;
       level_other = omega (arith, level);
       headroom =
           record {
-            first = h.ground.headroom;
-            second = h.ground.headroom;
+            first = h.on_ground.headroom;
+            second = h.on_ground.headroom;
             initial = refl;
-            near = near_itself headroom_of t (shown_headroom c.protector) h.ground.headroom_settled (omega (arith, headroom, below));
+            near = near_itself headroom_of t (shown_headroom c.protector) h.on_ground.headroom_settled (omega (arith, headroom, below));
           };
       headroom_count = headroom;
       headroom_other = omega (arith, headroom);
       gain =
           record {
-            first = h.ground.gain;
-            second = h.ground.gain;
+            first = h.on_ground.gain;
+            second = h.on_ground.gain;
             applier = refl;
             settings = refl;
             change = refl;

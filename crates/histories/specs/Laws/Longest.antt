@@ -3,7 +3,7 @@
 use Rattle.std.specs.Prelude.{◌≡◌, refl, Bool, true, false, cond, List, [], ◌∷◌, ◌++◌, ℕ, ◌+◌, ◌<◌, max, length}
 use Rattle.std.proofs.Common.{arith}
 use Rattle.runs.specs.Histories.{reached, counting, counted}
-use Rattle.runs.specs.Laws.Published.{reached_short, one_longer}
+use Rattle.runs.proofs.Published.{reached_short, one_longer}
 use Rattle.histories.specs.Histories.{Event, gap, is_speech, takes, only_taken}
 use Rattle.histories.specs.Changes.{ahead}
 use Rattle.histories.specs.Longest.{longest}

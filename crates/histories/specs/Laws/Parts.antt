@@ -9,7 +9,7 @@ use Rattle.std.proofs.lemmas.Bool.{lt-leb}
 use Rattle.units.specs.declared.settings.Settings.{Settings}
 use Rattle.runs.specs.Runs.{speech}
 use Rattle.runs.specs.Histories.{Frame, Shown, showing}
-use Rattle.runs.specs.Laws.Near.{Near, near_stays, near_closed}
+use Rattle.runs.proofs.Near.{Near, near_stays, near_closed}
 use Rattle.speech_level_estimator.specs.Average as Average
 use Rattle.speech_level_estimator.specs.Estimator as Level
 use Rattle.speech_level_estimator.specs.Laws.Gaps as LevelGaps
@@ -17,7 +17,7 @@ use Rattle.speech_level_estimator.specs.declared.Average.{Average as LevelState}
 use Rattle.speech_level_estimator.specs.declared.Estimator.{Estimator}
 use Rattle.saturation_protector.specs.Peaks as Peaks
 use Rattle.saturation_protector.specs.Protector as Headroom
-use Rattle.saturation_protector.specs.Laws.Gaps as HeadroomGaps
+use Rattle.saturation_protector.proofs.Gaps as HeadroomGaps
 use Rattle.saturation_protector.specs.declared.Peaks.{Peaks as PeakState}
 use Rattle.saturation_protector.specs.declared.Protector.{Protector}
 use Rattle.gain_applier.specs.declared.Applier.{Applier}

@@ -9,7 +9,7 @@ use Rattle.lists.specs.Each.{Each}
 use Rattle.units.specs.declared.settings.Settings.{Settings}
 use Rattle.runs.specs.Runs.{framed, published}
 use Rattle.runs.specs.Histories.{Frame, advanced_by, reached, counting, counted, Shown, showing, shown_after}
-use Rattle.runs.specs.Laws.Published.{published_after}
+use Rattle.runs.proofs.Published.{published_after}
 use Rattle.speech_level_estimator.specs.Average as Level
 use Rattle.speech_level_estimator.specs.Estimator as Estimators
 use Rattle.speech_level_estimator.specs.declared.Average.{Average}

@@ -1,5 +1,4 @@
 -- `interpolated_gain_curve::counted` meets its contract. Assumes nothing.
-use Rattle.std.proofs.Common.{rules}
 use Rattle.interpolated_gain_curve.specs.Curve.{counted}
 use Rattle.interpolated_gain_curve.proofs.counted.Goals as goal
 

@@ -1,5 +1,5 @@
 -- `interpolated_gain_curve::gain_of` meets its contract: the piece's number is below 32, so both tables have it. Assumes nothing.
-use Rattle.std.proofs.Common.{◌<◌, arith, rules}
+use Rattle.std.proofs.Common.{◌<◌, arith}
 use Rattle.interpolated_gain_curve.specs.Gain.{slope_bits, slopes, intercept_bits, intercepts, on_piece, gain_of}
 use Rattle.interpolated_gain_curve.specs.Laws.Knots.{piece_inside}
 use Rattle.interpolated_gain_curve.proofs.gain_of.Goals as goal

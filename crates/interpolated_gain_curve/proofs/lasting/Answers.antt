@@ -1,5 +1,5 @@
 -- `interpolated_gain_curve::lasting` meets its contract: one longer below the largest, held there, and 0 at a change. Assumes nothing.
-use Rattle.std.proofs.Common.{◌≡◌, ℕ, ◌-◌, ◌^◌, true, false, T, ℤ, pos, negsuc, ◌+ℤ◌, refl, ap, ◌∙◌, arith, to_z-of_z, w64, SFits, to_z, of_z, ltb-true, eq-eqb, ne_eqb}
+use Rattle.std.proofs.Common.{◌≡◌, ℕ, ◌-◌, ◌^◌, true, false, T, ℤ, pos, negsuc, ◌+ℤ◌, refl, ap, ◌∙◌, arith, to_z-of_z, w64, SFits, ltb-true, eq-eqb, ne_eqb}
 use lib.Signed.{lt_z}
 use Rattle.interpolated_gain_curve.specs.Curve.{lasting, longer, not_negative}
 use Rattle.interpolated_gain_curve.proofs.lasting.Goals as goal

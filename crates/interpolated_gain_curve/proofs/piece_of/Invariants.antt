@@ -1,8 +1,6 @@
 -- `interpolated_gain_curve::piece_of` meets its contract. The invariant: the search on what is left, with what was found so far, finds the piece. Assumes nothing.
-use Rattle.std.proofs.Common.{◌≡◌, ◌+◌, ◌-◌, ◌≤◌, List, drop, sym, ◌∙◌, add-one, arith, rules}
-use lib.Ieee.{Float, nan}
-use Rattle.lists.specs.Loops.{scan, scan_done}
-use Rattle.interpolated_gain_curve.specs.Gain.{last_below, knots, knot_bits, piece_of}
+use Rattle.std.proofs.Common.{◌≡◌, ◌-◌, ◌≤◌, drop}
+use Rattle.interpolated_gain_curve.specs.Gain.{last_below, knots, piece_of}
 use Rattle.interpolated_gain_curve.proofs.piece_of.Given as goal
 
 abbrev pub invariant-loop-i : goal.invariant-loop-i

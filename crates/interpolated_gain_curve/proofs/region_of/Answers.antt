@@ -1,5 +1,4 @@
 -- `interpolated_gain_curve::region_of` meets its contract: the same comparisons in the same order. Assumes nothing.
-use Rattle.std.proofs.Common.{rules}
 use Rattle.interpolated_gain_curve.specs.Gain.{region_of}
 use Rattle.interpolated_gain_curve.proofs.region_of.Goals as goal
 

@@ -1,6 +1,6 @@
 -- Larger, smaller and clamp by units: which of two numbers is chosen, and between which ends a clamped value lies.
-use Rattle.std.specs.Prelude.{◌≡◌, refl, Bool, true, false, not, cond, ℕ, ◌+◌, ◌≤◌, ◌<◌, T, Float}
-use Rattle.std.proofs.Common.{sym, ap, ◌∙◌, subst, le_refl, le_of_lt, arith}
+use Rattle.std.specs.Prelude.{Bool, true, false, not, cond, ◌+◌, ◌≤◌, ◌<◌, T, Float}
+use Rattle.std.proofs.Common.{le_refl, le_of_lt, arith}
 use Rattle.std.specs.Float.{nan, inf, fin, binary32}
 use Rattle.std.specs.Float.Ieee.{lt, fits, is_nan}
 use Rattle.rounding.specs.Units.{P, N, Number, In}

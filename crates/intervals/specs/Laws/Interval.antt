@@ -1,12 +1,12 @@
 -- The interval evaluator is right: where each variable lies in its box and the test passes, the value of the expression lies in its box.
-use Rattle.std.specs.Prelude.{◌≡◌, refl, ◌⊎◌, Bool, true, false, ◌&&◌, List, [], ◌∷◌, ℕ, zero, suc, ◌+◌, ◌-◌, ◌*◌, ◌≤◌, ◌<◌, T, get_or}
-use Rattle.std.proofs.Common.{sym, ap, ◌∙◌, subst, inl, inr, le_refl, mul-le-mul_right, mul-le-mul_left, zero-mul, lt_of_lt_of_le, arith, lit<}
+use Rattle.std.specs.Prelude.{◌≡◌, ◌⊎◌, Bool, ◌&&◌, List, [], ◌∷◌, ℕ, zero, suc, ◌+◌, ◌*◌, ◌≤◌, ◌<◌, T, get_or}
+use Rattle.std.proofs.Common.{sym, subst, inl, inr, le_refl, mul-le-mul_right, mul-le-mul_left, arith, lit<}
 use Rattle.std.specs.Float.Ieee.{Float, add, sub, mul, div, neg, lt, fits, of_bits}
 use Rattle.std.specs.Float.{nan, binary32}
 use Rattle.std.specs.Float.Ieee.Fits.{and_l, and_r}
 use Rattle.std.specs.Float.Ieee.Scale.{finite}
 use Rattle.floats.specs.Choice as Choice
-use Rattle.rounding.specs.Units.{U, P, N, Number, Value, In, rnd, Rounding}
+use Rattle.rounding.specs.Units.{U, P, N, Number, In, Rounding}
 use Rattle.intervals.specs.Interval.{Expr, variable, constant, sum, difference, product, quotient, larger, smaller, eval, Box, nowhere, sum_box, difference_box, corners, finite_corners, box, finite_box, bounded, Boxed, AllBoxed}
 use Rattle.rounding.specs.Laws.Whole.{U_pos, sides}
 use Rattle.rounding.specs.Laws.Operations.{add_rounds, neg_value, mul_rounds, div_rounds}

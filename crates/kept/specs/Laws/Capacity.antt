@@ -1,7 +1,6 @@
 -- The capacity of both rings of what is kept: a new chain has the one asked for, and no call changes it. Laws.
 -- Assumes nothing.
 use Rattle.std.specs.Prelude.{◌≡◌, refl, Bool, true, false, cond, List, ℕ, eqb, Float}
-use Rattle.std.proofs.Common.{ap, ◌∙◌}
 use Rattle.units.specs.Replies.{done}
 use Rattle.units.specs.declared.figures.Figures.{Figures}
 use Rattle.units.specs.declared.settings.Settings.{Settings}

@@ -1,12 +1,11 @@
 -- `limiter::channel_factors` meets its contract: the start of the array is what was filled. Assumes nothing.
 use mathlib.Core.Path.{◌≡◌, refl, sym, ◌∙◌}
-use mathlib.Core.List.{List, ◌++◌}
-use Prim.Native.Nat.{ℕ, ◌*◌, ◌≤◌}
+use mathlib.Core.List.{List}
+use Prim.Native.Nat.{ℕ, ◌≤◌}
 use native.Mathlib.Omega.{arith}
-use lib.ListN.{length, take, drop, length-take}
+use lib.ListN.{length, take, length-take}
 use lib.Seq.{take_at}
 use lib.Ieee.{Float}
-use borrow.Author.Rules.{rules}
 use Rattle.limiter.proofs.channel_factors.Goals as goal
 
 start-long : (n : ℕ) (xs : List Float) → n ≤ 480 → length xs ≡ 480 → length (take n xs) ≡ n

@@ -1,15 +1,10 @@
 -- `limiter::fill_curved` meets its contract. The invariant: what is done, then the curve on what is left. Assumes nothing.
-use mathlib.Core.Path.{◌≡◌, refl, sym, ap, ◌∙◌}
-use mathlib.Core.List.{List, ◌++◌}
-use Prim.Native.Nat.{◌+◌, ◌-◌, ◌≤◌, ◌<◌}
-use native.Mathlib.Omega.{arith}
-use borrow.Author.Rules.{rules}
-use lib.ListN.{length, take, drop, length-set}
-use lib.Ieee.{Float, nan}
-use Rattle.lists.specs.Loops.{in_place, in_place_done}
+use mathlib.Core.Path.{◌≡◌}
+use mathlib.Core.List.{◌++◌}
+use Prim.Native.Nat.{◌-◌, ◌≤◌}
+use lib.ListN.{length, take, drop}
 use Rattle.limiter.specs.Factors.{curved}
-use lib.Ieee.{binary32, sub}
-use Rattle.limiter.specs.Factors.{whole, curved}
+use Rattle.limiter.specs.Factors.{curved}
 use Rattle.limiter.proofs.fill_curved.Given as goal
 
 abbrev pub invariant-loop-j : goal.invariant-loop-j

@@ -1,6 +1,5 @@
 -- `limiter::fill_first` meets its contract: each branch is a case of the definition. Assumes nothing.
 use Rattle.limiter.specs.Factors.{first_part}
-use borrow.Author.Rules.{rules}
 use Rattle.limiter.proofs.fill_first.Goals as goal
 
 pub returns-then-end-start : goal.returns-then-end-start

@@ -1,12 +1,8 @@
 -- `limiter::fill_line` meets its contract. The invariant: what is done, then the line on what is left. Assumes nothing.
-use mathlib.Core.Path.{◌≡◌, refl, sym, ap, ◌∙◌}
-use mathlib.Core.List.{List, ◌++◌}
-use Prim.Native.Nat.{◌+◌, ◌-◌, ◌≤◌, ◌<◌}
-use native.Mathlib.Omega.{arith}
-use borrow.Author.Rules.{rules}
-use lib.ListN.{length, take, drop, length-set}
-use lib.Ieee.{Float, nan}
-use Rattle.lists.specs.Loops.{in_place, in_place_done}
+use mathlib.Core.Path.{◌≡◌}
+use mathlib.Core.List.{◌++◌}
+use Prim.Native.Nat.{◌-◌, ◌≤◌}
+use lib.ListN.{length, take, drop}
 use Rattle.limiter.specs.Factors.{line}
 use Rattle.limiter.proofs.fill_line.Given as goal
 

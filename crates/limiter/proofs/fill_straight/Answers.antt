@@ -7,7 +7,6 @@ use lib.Ieee.{Float, binary32, of_bits, of_int, sub, div}
 use lib.ListN.{length, take, drop, drop_of_length-le}
 use lib.Seq.{take_all, length-take-le}
 use Rattle.limiter.specs.Factors.{whole, line, straight}
-use borrow.Author.Rules.{rules}
 use native.Mathlib.Omega.{arith}
 use Rattle.limiter.proofs.fill_straight.Goals as goal
 

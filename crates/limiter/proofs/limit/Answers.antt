@@ -1,10 +1,9 @@
 -- `limiter::limit` meets its contract, by the laws of what is done in blocks. The invariant adds that what is left are numbers. Assumes nothing.
 use Prim.Native.Nat.{◌+◌, ◌-◌}
-use lib.ListN.{length, drop, length-drop}
+use lib.ListN.{length, length-drop}
 use Rattle.frames.specs.Walk.{block_cut, block_last}
-use Rattle.frames.specs.Blocks.{Blocks, blocks_begin, blocks_go_on, blocks_end}
-use Rattle.lists.specs.Each.{Each, each_take, each_drop}
-use Rattle.limiter.specs.Factors.{limited}
+use Rattle.frames.specs.Blocks.{blocks_begin, blocks_go_on, blocks_end}
+use Rattle.lists.specs.Each.{each_take, each_drop}
 use Rattle.limiter.specs.Scale.{Finite}
 use Rattle.limiter.specs.Laws.Blocks.{limited_split}
 use borrow.Author.Rules.{rules}

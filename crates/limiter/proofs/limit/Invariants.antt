@@ -1,14 +1,10 @@
 -- `limiter::limit` meets its contract, by the laws of what is done in blocks. The invariant adds that what is left are numbers. Assumes nothing.
-use Prim.Native.Nat.{◌+◌, ◌-◌}
-use lib.ListN.{length, drop, length-drop}
-use Rattle.frames.specs.Walk.{block_cut, block_last}
-use Rattle.frames.specs.Blocks.{Blocks, blocks_begin, blocks_go_on, blocks_end}
-use Rattle.lists.specs.Each.{Each, each_take, each_drop}
+use Prim.Native.Nat.{◌-◌}
+use lib.ListN.{length, drop}
+use Rattle.frames.specs.Blocks.{Blocks}
+use Rattle.lists.specs.Each.{Each}
 use Rattle.limiter.specs.Factors.{limited}
 use Rattle.limiter.specs.Scale.{Finite}
-use Rattle.limiter.specs.Laws.Blocks.{limited_split}
-use borrow.Author.Rules.{rules}
-use native.Mathlib.Omega.{arith}
 use Rattle.limiter.proofs.limit.Given as goal
 
 abbrev pub invariant-loop-part : goal.invariant-loop-part

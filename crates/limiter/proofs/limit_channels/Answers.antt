@@ -1,10 +1,9 @@
 -- `limiter::limit_channels` meets its contract, by the laws of the walk over what is done to a part; and what is left of the frame are numbers. Assumes nothing.
 use Prim.Native.Nat.{◌+◌, ◌-◌}
 use native.Mathlib.Omega.{arith}
-use lib.ListN.{drop, length-take, length-drop}
-use Rattle.frames.specs.Walk.{Walking, walk_begins, walk_room, walk_goes_on, walk_ends, block_cut}
-use Rattle.lists.specs.Each.{Each, each_take, each_drop}
-use Rattle.limiter.specs.Factors.{limited}
+use lib.ListN.{length-take, length-drop}
+use Rattle.frames.specs.Walk.{walk_begins, walk_room, walk_goes_on, walk_ends, block_cut}
+use Rattle.lists.specs.Each.{each_take, each_drop}
 use Rattle.limiter.specs.Scale.{Finite}
 use Rattle.limiter.proofs.limit_channels.Goals as goal
 

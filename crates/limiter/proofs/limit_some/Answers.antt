@@ -1,11 +1,10 @@
 -- `limiter::limit_some` meets its contract. The invariant: what is done, then the definition on what is left, by the factors that are left; and what is left are numbers. Assumes nothing.
-use mathlib.Core.Path.{◌≡◌, refl, sym, ap, ◌∙◌}
-use mathlib.Core.List.{List, ◌∷◌, ◌++◌}
-use Prim.Native.Nat.{◌+◌, ◌-◌, ◌≤◌, ◌<◌}
+use mathlib.Core.Path.{refl, sym, ◌∙◌}
+use mathlib.Core.List.{◌∷◌}
+use Prim.Native.Nat.{◌+◌, ◌<◌}
 use native.Mathlib.Omega.{arith}
-use borrow.Author.Rules.{rules}
-use lib.ListN.{length, take, drop, get_or, length-set}
-use lib.Ieee.{Float, nan}
+use lib.ListN.{length, drop, get_or, length-set}
+use lib.Ieee.{nan}
 use Rattle.lists.specs.Each.{Each, each_at}
 use Rattle.lists.specs.Loops.{in_place, in_place_done}
 use Rattle.lists.specs.Stores.{next, after_store}

@@ -1,17 +1,11 @@
 -- `limiter::limit_some` meets its contract. The invariant: what is done, then the definition on what is left, by the factors that are left; and what is left are numbers. Assumes nothing.
-use mathlib.Core.Path.{◌≡◌, refl, sym, ap, ◌∙◌}
-use mathlib.Core.List.{List, ◌∷◌, ◌++◌}
-use Prim.Native.Nat.{◌+◌, ◌-◌, ◌≤◌, ◌<◌}
-use native.Mathlib.Omega.{arith}
-use borrow.Author.Rules.{rules}
-use lib.ListN.{length, take, drop, get_or, length-set}
-use lib.Ieee.{Float, nan}
-use Rattle.lists.specs.Each.{Each, each_at}
-use Rattle.lists.specs.Loops.{in_place, in_place_done}
-use Rattle.lists.specs.Stores.{next, after_store}
+use mathlib.Core.Path.{◌≡◌}
+use mathlib.Core.List.{◌++◌}
+use Prim.Native.Nat.{◌-◌, ◌≤◌}
+use lib.ListN.{length, take, drop}
+use Rattle.lists.specs.Each.{Each}
 use Rattle.limiter.specs.Factors.{limited}
 use Rattle.limiter.specs.Scale.{Finite}
-use Rattle.limiter.specs.Laws.Products.{clamp_turned}
 use Rattle.limiter.proofs.limit_some.Given as goal
 
 abbrev pub invariant-loop-i : goal.invariant-loop-i

@@ -1,10 +1,9 @@
 -- `limiter::look_up` meets its contract. The invariant: what is done, then the gains and the counts of what is left. Assumes nothing.
 use mathlib.Core.Path.{◌≡◌, refl, sym, ◌∙◌}
-use mathlib.Core.List.{List, ◌++◌}
-use Prim.Native.Nat.{◌+◌, ◌-◌, ◌≤◌}
+use mathlib.Core.List.{List}
 use native.Mathlib.Omega.{arith}
 use borrow.Author.Rules.{rules}
-use lib.ListN.{length, take, drop, length-set}
+use lib.ListN.{length, length-set}
 use lib.Ieee.{nan}
 use Rattle.units.specs.declared.kinds.LinearS16.{LinearS16}
 use Rattle.lists.specs.Loops.{across, across_done, scan, scan_done}

@@ -1,13 +1,8 @@
 -- `limiter::look_up` meets its contract. The invariant: what is done, then the gains and the counts of what is left. Assumes nothing.
-use mathlib.Core.Path.{◌≡◌, refl, sym, ◌∙◌}
-use mathlib.Core.List.{List, ◌++◌}
-use Prim.Native.Nat.{◌+◌, ◌-◌, ◌≤◌}
-use native.Mathlib.Omega.{arith}
-use borrow.Author.Rules.{rules}
-use lib.ListN.{length, take, drop, length-set}
-use lib.Ieee.{nan}
-use Rattle.units.specs.declared.kinds.LinearS16.{LinearS16}
-use Rattle.lists.specs.Loops.{across, across_done, scan, scan_done}
+use mathlib.Core.Path.{◌≡◌}
+use mathlib.Core.List.{◌++◌}
+use Prim.Native.Nat.{◌-◌, ◌≤◌}
+use lib.ListN.{length, take, drop}
 use Rattle.fixed_digital_level_estimator.specs.Envelope.{plain}
 use Rattle.limiter.specs.Limiter.{gains_of, curve_after}
 use Rattle.limiter.proofs.look_up.Given as goal

@@ -1,15 +1,14 @@
 -- Every factor is a number: no step of the line or of the eighth power can overflow. By the interval evaluator.
-use Rattle.std.specs.Prelude.{◌≡◌, refl, List, [], ◌∷◌, ◌++◌, Bool, not, cond, T, pos, Float}
-use Rattle.std.proofs.Common.{sym, ap, ◌∙◌, subst, mul-le-mul_right, le_trans, arith}
+use Rattle.std.specs.Prelude.{◌≡◌, refl, List, [], ◌∷◌, Bool, cond, T, Float}
+use Rattle.std.proofs.Common.{mul-le-mul_right, arith}
 use Rattle.std.proofs.Math.Bool.{true, false}
 use Prim.Native.Nat.{ℕ, zero, suc, ◌+◌, ◌*◌, ◌^◌, ◌≤◌, ◌<◌}
-use Rattle.std.specs.Float.{nan, inf, fin, binary32}
-use Rattle.std.specs.Float.Ieee.{of_bits, of_int, add, sub, mul, div, lt, fits, size as bits}
-use Rattle.std.specs.Float.Ieee.Scale.{finite}
-use Rattle.rounding.specs.Units.{U, size, P, N, Number, Value, In}
+use Rattle.std.specs.Float.{binary32}
+use Rattle.std.specs.Float.Ieee.{of_bits, add, sub, mul, div, lt, fits, size as bits}
+use Rattle.rounding.specs.Units.{U, size, P, N, Number, Value}
 use Rattle.rounding.specs.Laws.Exact.{constant_number, whole_number}
 use Rattle.floats.specs.Choice.{larger, smaller}
-use Rattle.intervals.specs.Interval.{Expr, variable, constant, sum, difference, product, quotient, eval, Box, box, bounded, Boxed, AllBoxed}
+use Rattle.intervals.specs.Interval.{Expr, variable, constant, sum, difference, product, quotient, eval, Box, bounded, Boxed, AllBoxed}
 use Rattle.intervals.specs.Laws.Interval.{interval}
 use Rattle.lists.specs.Each.{Each, each_append}
 use Rattle.limiter.specs.Factors.{whole, line, straight, eighth, curved, first_part, later_parts, factors}

@@ -1,22 +1,20 @@
 -- New and every accepted call give a state that passes.
-use Rattle.std.specs.Prelude.{◌≡◌, refl, Bool, true, ◌&&◌, cond, List, ℕ, T, eqb, Float}
-use Rattle.std.proofs.Common.{sym, ap, ap₂, ◌∙◌, subst}
+use Rattle.std.specs.Prelude.{◌≡◌, refl, Bool, true, ◌&&◌, cond, List, ℕ, T, Float}
+use Rattle.std.proofs.Common.{ap, ap₂, ◌∙◌, subst}
 use Rattle.std.specs.Float.{binary32}
-use Rattle.std.specs.Float.Ieee.{of_bits, lt, eq, fits}
+use Rattle.std.specs.Float.Ieee.{of_bits, lt, fits}
 use Rattle.std.specs.Float.Ieee.Bits.{of_bits-fits}
 use Rattle.lists.specs.Tests.{◌and◌}
 use Rattle.units.specs.Replies.{done, refusal}
 use Rattle.units.specs.Laws.Replies.{none_refused}
 use Rattle.frames.specs.Shape.{is_samples}
-use Rattle.frames.specs.Refusal.{frame_refusal}
-use Rattle.frames.specs.Samples.{largest_level}
 use Rattle.fixed_digital_level_estimator.specs.Range.{Held, Ready as EstimatorReady}
 use Rattle.fixed_digital_level_estimator.specs.declared.Estimator.{Estimator}
 use Rattle.fixed_digital_level_estimator.specs.Estimator as E
 use Rattle.fixed_digital_level_estimator.specs.Laws.States.{made_ready, changed_ready, cleared_ready}
 use Rattle.interpolated_gain_curve.specs.Curve as C
 use Rattle.limiter.specs.declared.Limiter.{Limiter}
-use Rattle.limiter.specs.Limiter.{carried_factor, passes, levels_of, after, processed, made, starting, changed, cleared, hearing}
+use Rattle.limiter.specs.Limiter.{carried_factor, passes, processed, made, starting, changed, cleared, hearing}
 use Rattle.limiter.specs.Scale.{FullScale, Ready}
 use Rattle.limiter.specs.Laws.Taking.{parts_pass}
 use Rattle.limiter.specs.Laws.Taken.{full_scale_lem, after_ready}

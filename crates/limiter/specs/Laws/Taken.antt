@@ -1,14 +1,13 @@
 -- Of a frame that is taken: its factors and its samples are numbers, every sample comes out between -32768 and 32767, and the state passes again, its carried factor above 0 and below 2.
-use Rattle.std.specs.Prelude.{◌≡◌, refl, List, [], ◌∷◌, Bool, true, false, ◌||◌, cond, ℕ, zero, suc, ◌+◌, ◌*◌, ◌/◌, ◌≤◌, ◌<◌, T, eqb, length, get_or}
-use Rattle.std.proofs.Common.{sym, ◌∙◌, le_of_lt, le_of_eq, le_trans, arith, eqb-true, lit≤}
+use Rattle.std.specs.Prelude.{◌≡◌, refl, List, [], ◌∷◌, Bool, true, false, ◌||◌, ℕ, suc, ◌*◌, ◌≤◌, T, eqb, length, get_or}
+use Rattle.std.proofs.Common.{sym, ◌∙◌, le_of_lt, le_of_eq, le_trans, arith, lit≤}
 use Rattle.std.proofs.Math.Path.{ap, subst}
 use lib.Ieee.{Float, nan, inf, fin, binary32, of_bits, lt, le, fits}
 use Rattle.std.specs.Float.Ieee.Bits.{is_true}
-use Rattle.rounding.specs.Units.{Number, In}
+use Rattle.rounding.specs.Units.{Number}
 use Rattle.rounding.specs.Laws.Exact.{constant_number}
-use Rattle.rounding.specs.Laws.Order.{between, le_box, lt→units}
+use Rattle.rounding.specs.Laws.Order.{between, lt→units}
 use Rattle.units.specs.Replies.{done}
-use Rattle.units.specs.Figures.{curve_level}
 use Rattle.frames.specs.Refusal.{frame_refusal}
 use Rattle.frames.specs.Samples.{largest_level}
 use Rattle.floats.specs.Kinds.{magnitude}
@@ -27,7 +26,7 @@ use Rattle.fixed_digital_level_estimator.specs.Laws.Range.{samples_level, level_
 use Rattle.fixed_digital_level_estimator.specs.Laws.Lengths.{envelope_length}
 use Rattle.fixed_digital_level_estimator.specs.Laws.States.{envelope_levels, computed_ready}
 use Rattle.limiter.specs.declared.Limiter.{Limiter}
-use Rattle.limiter.specs.Limiter.{carried_factor, passes, gains_of, curve_after, levels_of, after, processed}
+use Rattle.limiter.specs.Limiter.{carried_factor, passes, gains_of, curve_after, levels_of, after}
 use Rattle.limiter.specs.Factors.{factors, limited}
 use Rattle.frames.specs.Parts.{each_part}
 use Rattle.limiter.specs.Scale.{FullScale, Finite, Moderate, Ready}

@@ -1,6 +1,6 @@
 -- Which frames the limiter takes: its reply from the estimator's, and what a frame that is taken has. Assumes nothing.
 use Rattle.std.specs.Prelude.{◌≡◌, refl, Bool, false, ◌&&◌, ◌||◌, List, [], ◌∷◌, ℕ, ◌*◌, ◌/◌, ◌%◌, ◌≤◌, length, get_or, Float}
-use Rattle.std.proofs.Common.{sym, ap₂, ◌∙◌, subst}
+use Rattle.std.proofs.Common.{sym, ◌∙◌}
 use Rattle.std.proofs.Math.Path.{ap}
 use Rattle.std.proofs.Math.Bool.{true, cond, and_assoc}
 use native.Mathlib.Omega.{arith}

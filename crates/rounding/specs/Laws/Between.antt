@@ -1,6 +1,6 @@
 -- A larger exact value rounds to a number that is no smaller, whatever the signs. So what lies between two numbers rounds to a number between them.
-use Rattle.std.specs.Prelude.{◌≡◌, refl, ◌⊎◌, Bool, true, false, not, cond, ℕ, ◌+◌, ◌-◌, ◌*◌, ◌≤◌, ◌<◌, T, Float}
-use Rattle.std.proofs.Common.{sym, ap, ap₂, ◌∙◌, subst, inl, inr, le_of_eq, le_trans, lt_of_le_of_lt, mul_comm, mul-one, mul-le-mul_right, mul-le-mul_left, arith, lit<}
+use Rattle.std.specs.Prelude.{◌≡◌, ◌⊎◌, ℕ, ◌+◌, ◌-◌, ◌*◌, ◌≤◌, ◌<◌, T, Float}
+use Rattle.std.proofs.Common.{sym, ap, ap₂, ◌∙◌, subst, inl, inr, le_of_eq, le_trans, lt_of_le_of_lt, mul_comm, mul-le-mul_right, mul-le-mul_left, arith, lit<}
 use Rattle.std.proofs.Math.Nat.{mul-sub, sub-zero, zero-sub}
 use Rattle.std.specs.Float.{binary32}
 use Rattle.std.specs.Float.Ieee.{mul}

@@ -1,17 +1,17 @@
 -- Where nothing is rounded: a constant, a whole number of 24 bits, a product by a power of two, a number without its fraction.
-use Rattle.std.specs.Prelude.{◌≡◌, refl, Bool, true, false, not, cond, ℕ, zero, suc, ◌+◌, ◌-◌, ◌*◌, ◌/◌, ◌^◌, ◌%◌, ◌≤◌, ◌<◌, min, ℤ, pos, T, leb, Float}
+use Rattle.std.specs.Prelude.{◌≡◌, Bool, true, false, not, ℕ, ◌+◌, ◌-◌, ◌*◌, ◌/◌, ◌^◌, ◌%◌, ◌≤◌, ◌<◌, min, ℤ, pos, T, leb, Float}
 use Rattle.std.proofs.Common.{sym, ap, ap₂, ◌∙◌, subst, le_of_lt, lt_of_le_of_lt, mul-div_cancel, lt_of_lt_of_le, mul-lt-mul_of_pos_right, mul_assoc, mul-one, add-zero, leb→le, lit<, lit≤, pow-add, pow_pos}
 use Rattle.std.proofs.Math.Nat.{mod-le, mul-mod_left, zero-div, min-eq_left, sub-zero, zero-sub}
 use Rattle.std.proofs.Math.Dec.{nleb→lt}
 use Rattle.std.proofs.Math.Arith.{mod-mul}
 use Rattle.std.specs.Float.{nan, inf, fin, binary32}
-use Rattle.std.specs.Float.Ieee.{up, down, fits, mul, of_int, of_bits, round, to_unsigned}
+use Rattle.std.specs.Float.Ieee.{up, down, fits, mul, of_int, of_bits, to_unsigned}
 use Rattle.std.specs.Float.Ieee.Bits.{of_bits-fits}
 use Rattle.std.specs.Float.Ieee.Digits.{back}
 use Rattle.std.specs.Float.Ieee.Fits.{down_pos}
 use Rattle.std.specs.Float.Ieee.Nearest.{div_same}
 use Rattle.std.specs.Float.Ieee.Scale.{finite}
-use Rattle.rounding.specs.Units.{U, limit, size, P, N, Number, Value, rnd, Rounding}
+use Rattle.rounding.specs.Units.{U, limit, size, P, N, Number, Value, rnd}
 use Rattle.rounding.specs.Laws.Rnd.{rnd_exact, rnd_zero}
 use Rattle.rounding.specs.Laws.Whole.{U_pos, limit_pos, whole, sides, digits_of}
 use Rattle.rounding.specs.Laws.Operations.{mul_above, rounded}

@@ -1,6 +1,6 @@
 -- A bound that no number of additions in a loop breaks: while all stays below 2 ^ (25 + h) units, an addition is off by 2 ^ h units at most.
-use Rattle.std.specs.Prelude.{◌≡◌, refl, Bool, true, false, not, ℕ, zero, suc, ◌+◌, ◌-◌, ◌*◌, ◌^◌, ◌≤◌, ◌<◌, T, leb, Float}
-use Rattle.std.proofs.Common.{sym, ap, ◌∙◌, subst, lt_of_lt_of_le, lt_of_le_of_lt, le_trans, add-zero, suc-mul, pow-suc, zero-mul, add_assoc, add-suc, sub-le, sub-eq-zero_of_le, le_of_lt, arith, leb→le, lit<, pow_mono}
+use Rattle.std.specs.Prelude.{◌≡◌, Bool, true, false, not, ℕ, zero, suc, ◌+◌, ◌-◌, ◌*◌, ◌^◌, ◌≤◌, ◌<◌, T, leb, Float}
+use Rattle.std.proofs.Common.{sym, ap, ◌∙◌, subst, lt_of_lt_of_le, lt_of_le_of_lt, pow-suc, sub-eq-zero_of_le, le_of_lt, arith, leb→le, lit<, pow_mono}
 use Rattle.std.proofs.Math.Dec.{nleb→lt}
 use Rattle.std.specs.Float.{binary32}
 use Rattle.std.specs.Float.Ieee.{add}

@@ -1,6 +1,6 @@
 -- Each operation's result is the rounding of its exact value, whatever the signs: `add_rounds`, `sub_rounds`, `mul_rounds`, `div_rounds`.
-use Rattle.std.specs.Prelude.{◌≡◌, refl, Bool, true, false, not, cond, ℕ, zero, suc, ◌+◌, ◌-◌, ◌*◌, ◌/◌, ◌^◌, ◌≤◌, ◌<◌, ◌⊎◌, ℤ, T, ltb, leb, eqb, Float}
-use Rattle.std.proofs.Common.{sym, ap, ap₂, ◌∙◌, subst, zero-le, le_of_eq, le_of_lt, le_trans, lt_irrefl, mul_assoc, mul_comm, mul_right_comm, mul-one, add-mul, mul-pos, mul-le-mul_right, le_of_mul-le-mul_right, mul-div_cancel, sub-eq-zero_of_le, add-zero, zero-add, zero-mul, zero-lt-suc, arith, inl, inr, ltb→lt, nltb→le, lit<, pow_pos}
+use Rattle.std.specs.Prelude.{◌≡◌, refl, Bool, true, false, not, cond, ℕ, zero, suc, ◌+◌, ◌-◌, ◌*◌, ◌/◌, ◌^◌, ◌≤◌, ◌<◌, ℤ, T, ltb, eqb, Float}
+use Rattle.std.proofs.Common.{sym, ap, ap₂, ◌∙◌, subst, zero-le, le_of_eq, le_of_lt, le_trans, lt_irrefl, mul_assoc, mul_comm, mul_right_comm, mul-one, add-mul, mul-pos, mul-le-mul_right, le_of_mul-le-mul_right, mul-div_cancel, sub-eq-zero_of_le, add-zero, zero-add, zero-mul, zero-lt-suc, arith, ltb→lt, nltb→le, lit<}
 use Rattle.std.proofs.Math.Nat.{mul-sub, sub-zero, zero-div, mul-mul-mul_comm}
 use Rattle.std.proofs.Math.Dec.{eqb-suc-zero}
 use Rattle.std.specs.Float.{nan, inf, fin, binary32}

@@ -1,6 +1,6 @@
 -- The comparisons of two numbers are those of their units.
-use Rattle.std.specs.Prelude.{◌≡◌, refl, ◌⊎◌, Bool, true, false, not, ◌&&◌, ◌||◌, cond, ℕ, zero, suc, ◌+◌, ◌-◌, ◌*◌, ◌≤◌, ◌<◌, ℤ, T, ltb, leb, eqb, Float}
-use Rattle.std.proofs.Common.{sym, ap, ap₂, ◌∙◌, subst, inl, inr, le_of_eq, le_trans, lt_of_lt_of_le, lt_of_le_of_lt, mul_comm, add-mul, mul-lt-mul_of_pos_right, lt_of_mul-lt-mul_right, add-zero, zero-add, zero-mul, add_comm, le_of_lt, eq-or-lt_of_le, arith, ltb→lt, lt→ltb, leb→le, le→leb, eqb→eq, nltb→le}
+use Rattle.std.specs.Prelude.{◌≡◌, refl, Bool, true, false, not, ◌&&◌, ◌||◌, ℕ, ◌+◌, ◌*◌, ◌≤◌, ◌<◌, ℤ, T, ltb, leb, eqb, Float}
+use Rattle.std.proofs.Common.{sym, ap, ap₂, ◌∙◌, subst, inl, inr, le_of_eq, lt_of_lt_of_le, lt_of_le_of_lt, add-mul, mul-lt-mul_of_pos_right, lt_of_mul-lt-mul_right, add-zero, zero-add, zero-mul, add_comm, le_of_lt, eq-or-lt_of_le, arith, ltb→lt, lt→ltb, leb→le, le→leb, eqb→eq, nltb→le}
 use Rattle.std.proofs.Math.Nat.{mul-pos, eq_of_mul-eq-mul_right}
 use Rattle.std.proofs.Math.Dec.{leb-suc-zero}
 use Rattle.std.specs.Float.{nan, inf, fin, binary32}

@@ -1,7 +1,7 @@
 -- Rounding to 24 digits, in whole numbers: a larger fraction rounds to a number that is no smaller, equal fractions round alike,
 -- a number of 24 digits stays, and the error is at most half of the last digit kept.
-use Rattle.std.specs.Prelude.{◌≡◌, refl, ◌⊎◌, not, T, eqb}
-use Rattle.std.proofs.Common.{sym, ap, ◌∙◌, subst, inl, inr, le_trans, le_of_eq, le_antisymm, lt_of_le_of_lt, lt_of_lt_of_le, eq-or-lt_of_le, mul_assoc, mul_comm, mul-one, mul-le-mul_right, mul-le-mul_left, mul-pos, le-div_iff_mul-le, div-mul-le_self, mul-div_cancel, div-add-mod', mod-lt, le_of_suc-le-suc, add-mul, zero-mul, suc-mul, lt_irrefl, zero-lt-suc, div-lt_iff_lt-mul, arith, leb→le, eqb→eq, lit<, pow-add, pow_pos, pow_mono, shl_lt}
+use Rattle.std.specs.Prelude.{◌≡◌, refl, not, T, eqb}
+use Rattle.std.proofs.Common.{sym, ap, ◌∙◌, subst, inl, inr, le_trans, le_of_eq, le_antisymm, lt_of_le_of_lt, eq-or-lt_of_le, mul_assoc, mul_comm, mul-one, mul-le-mul_right, mul-le-mul_left, mul-pos, le-div_iff_mul-le, div-mul-le_self, mul-div_cancel, div-add-mod', mod-lt, le_of_suc-le-suc, add-mul, zero-mul, suc-mul, lt_irrefl, zero-lt-suc, div-lt_iff_lt-mul, arith, leb→le, eqb→eq, lit<, pow-add, pow_pos, pow_mono, shl_lt}
 use Prim.Native.Nat.compare
 use Prim.Native.Nat.{ℕ, zero, suc, ◌+◌, ◌-◌, ◌*◌, ◌/◌, ◌%◌, ◌^◌, ◌≤◌, ◌<◌, zero-le, compare, Ordering}
 use Rattle.std.proofs.Math.Nat.{div-div-eq-div-mul, mul-mod_left}

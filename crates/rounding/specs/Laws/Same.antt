@@ -1,10 +1,10 @@
 -- Two numbers of the same units are the same, but for the sign of a zero.
-use Rattle.std.specs.Prelude.{◌≡◌, refl, Bool, true, false, cond, ℕ, zero, suc, ◌+◌, ◌-◌, ◌*◌, ◌/◌, ◌^◌, ◌≤◌, ◌<◌, ℤ, pos, negsuc, T, eqb, Float}
-use Rattle.std.proofs.Common.{sym, ap, ◌∙◌, subst, lt_irrefl, mul-pos, mul-one, one-mul, zero-lt-suc, lt_of_mul-lt-mul_right, zero-mul, lt_of_lt_of_le, lt_of_le_of_lt, le_of_eq, pow-suc, arith, eqb→eq, pow_pos}
+use Rattle.std.specs.Prelude.{◌≡◌, refl, Bool, true, false, cond, ℕ, zero, suc, ◌+◌, ◌-◌, ◌*◌, ◌/◌, ◌^◌, ◌<◌, ℤ, pos, negsuc, T, Float}
+use Rattle.std.proofs.Common.{sym, ap, ◌∙◌, mul-pos, mul-one, one-mul, zero-lt-suc, lt_of_mul-lt-mul_right, zero-mul, lt_of_lt_of_le, lt_of_le_of_lt, le_of_eq, pow-suc, arith, eqb→eq, pow_pos}
 use Rattle.std.specs.Float.{nan, inf, fin, binary32}
-use Rattle.std.specs.Float.Ieee.{up, down, fits, to_bits, of_bits, top, hid}
+use Rattle.std.specs.Float.Ieee.{down, fits, to_bits, of_bits, top, hid}
 use Rattle.std.specs.Float.Ieee as Ieee
-use Rattle.std.specs.Float.Ieee.Fits.{up_pos, down_pos}
+use Rattle.std.specs.Float.Ieee.Fits.{up_pos}
 use Rattle.std.specs.Float.Ieee.Bits.{of_bits-to_bits}
 use Rattle.rounding.specs.Units.{U, size, P, N, Number}
 use Rattle.rounding.specs.Laws.Whole.{U_pos, whole}

@@ -1,6 +1,6 @@
 -- A number is a whole number of units: 24 digits with zeros after them, below the limit, above zero or below it and never both.
-use Rattle.std.specs.Prelude.{◌≡◌, refl, ◌⊎◌, Bool, true, false, ◌&&◌, cond, ℕ, zero, suc, ◌+◌, ◌-◌, ◌*◌, ◌/◌, ◌%◌, ◌^◌, ◌≤◌, ◌<◌, ℤ, pos, negsuc, T, ltb, leb, eqb, Float}
-use Rattle.std.proofs.Common.{sym, ap, ◌∙◌, subst, inl, inr, suc-le-suc, le_trans, le_of_eq, lt_of_lt_of_le, mul_assoc, mul_comm, mul_right_comm, mul-one, one-mul, zero-mul, mul-div_cancel, mul-lt-mul_of_pos_right, lt_of_mul-lt-mul_right, add-zero, zero-add, not-le_of_lt, lt_of_not-le, arith, ltb→lt, leb→le, pow-add, pow_pos}
+use Rattle.std.specs.Prelude.{◌≡◌, refl, ◌⊎◌, Bool, true, false, ◌&&◌, ℕ, zero, suc, ◌+◌, ◌-◌, ◌*◌, ◌/◌, ◌%◌, ◌^◌, ◌≤◌, ◌<◌, ℤ, pos, negsuc, T, ltb, leb, eqb, Float}
+use Rattle.std.proofs.Common.{sym, ap, ◌∙◌, subst, inl, inr, suc-le-suc, mul_assoc, mul_right_comm, mul-one, one-mul, zero-mul, mul-div_cancel, mul-lt-mul_of_pos_right, lt_of_mul-lt-mul_right, add-zero, zero-add, not-le_of_lt, lt_of_not-le, arith, ltb→lt, leb→le, pow-add}
 use Rattle.std.proofs.Math.Nat.{zero-div}
 use Rattle.std.proofs.Math.Dec.{lit<}
 use Rattle.std.proofs.Math.Pow.{pow-lt}

@@ -1,7 +1,5 @@
 -- `runs::longer` meets its contract: one choice. Assumes nothing.
 use mathlib.Core.Path.{sym}
-use borrow.Author.Rules.{rules}
-use native.Mathlib.Omega.{arith}
 use Rattle.runs.specs.Laws.Counts.{longer_below, longer_at}
 use Rattle.runs.proofs.longer.Goals as goal
 

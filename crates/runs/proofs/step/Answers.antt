@@ -2,7 +2,6 @@
 use mathlib.Core.Bool.{Bool, ◌&&◌, not, cond}
 use mathlib.Core.Path.{◌≡◌}
 use Prim.Native.Nat.{ℕ}
-use borrow.Author.Rules.{rules}
 use Rattle.runs.specs.Runs.{longer, publishes, keeps, throws, published, turned}
 use Rattle.runs.specs.declared.Turn.{Turn}
 use Rattle.runs.proofs.step.Goals as goal

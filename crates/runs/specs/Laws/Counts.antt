@@ -1,8 +1,7 @@
 -- The count that is held at the threshold decides as one that is not held would. What the code is told is what the rule says. Laws.
 -- Assumes nothing.
-use Rattle.std.specs.Prelude.{◌≡◌, refl, Bool, true, false, ◌&&◌, cond, ℕ, ◌+◌, ◌≤◌, ◌<◌, leb, ltb}
+use Rattle.std.specs.Prelude.{◌≡◌, refl, Bool, true, false, ◌&&◌, cond, ℕ, ◌+◌, ◌≤◌, ◌<◌, ltb}
 use Rattle.std.proofs.Common.{arith, ltb-true, ltb-false, lt-ltb, le-ltb, le-leb}
-use Rattle.std.proofs.lemmas.Bool.{lt-leb}
 use Rattle.runs.specs.Runs.{longer, publishes, keeps, throws, Run, advanced, closed, framed, turned}
 
 -- While the threshold is not reached, a run grows by one.

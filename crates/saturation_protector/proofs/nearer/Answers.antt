@@ -1,6 +1,5 @@
 -- `saturation_protector::nearer` meets its contract: a choice, four operations and a clamp. Assumes nothing.
 use Rattle.saturation_protector.specs.Peaks.{nearer}
-use borrow.Author.Rules.{rules}
 use Rattle.saturation_protector.proofs.nearer.Goals as goal
 
 pub returns : goal.returns

@@ -2,7 +2,6 @@
 use mathlib.Core.Path.{sym, ap, ◌∙◌}
 use Rattle.saturation_protector_buffer.specs.Ring.{said}
 use Rattle.saturation_protector.specs.Laws.Oldest.{front_told, none_oldest, one_oldest}
-use borrow.Author.Rules.{rules}
 use Rattle.saturation_protector.proofs.oldest_or.Goals as goal
 
 pub returns-in-None : goal.returns-in-None

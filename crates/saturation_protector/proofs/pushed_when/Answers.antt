@@ -4,7 +4,6 @@ use Rattle.saturation_protector_buffer.specs.Ring.{push}
 use Rattle.saturation_protector_buffer.specs.declared.Next.{Next}
 use Rattle.saturation_protector.specs.Laws.Rings.{pushed_ring}
 use Rattle.saturation_protector.specs.Laws.Tests.{level_finite}
-use borrow.Author.Rules.{rules}
 use Rattle.saturation_protector.proofs.pushed_when.Goals as goal
 
 pub returns-then-due : goal.returns-then-due

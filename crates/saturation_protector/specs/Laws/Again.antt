@@ -59,29 +59,29 @@ either_count true t count h = longer_most t count h
 either_count false t count h = omega arith
 
 -- A protector that passes does so after a frame of a peak and a level of the speech from -150 to 50, whatever the probability.
-pub analyzed_passes : (s : Protector) (p peak speechLevel : Float) → passes s ≡ true → level peak ≡ true → level speechLevel ≡ true
-    → passes (analyzed s p peak speechLevel) ≡ true
+pub analyzed_passes : (s : Protector) (p peak speech_level : Float) → passes s ≡ true → level peak ≡ true → level speech_level ≡ true
+    → passes (analyzed s p peak speech_level) ≡ true
 unfolding turned_to turned preliminary_of
-analyzed_passes s p peak speechLevel h k l =
+analyzed_passes s p peak speech_level h k l =
     let was = passed_whole s h in
     let b = speech p in
     let turn = turned b s.threshold s.count in
-    let preliminary : Peaks.passes (preliminary_of b peak speechLevel s) ≡ true =
-    either_state b (Peaks.advanced peak speechLevel s.preliminary) (cond turn.throw s.reliable s.preliminary)
-    (advanced_passes peak speechLevel s.preliminary was.preliminary k l)
+    let preliminary : Peaks.passes (preliminary_of b peak speech_level s) ≡ true =
+    either_state b (Peaks.advanced peak speech_level s.preliminary) (cond turn.throw s.reliable s.preliminary)
+    (advanced_passes peak speech_level s.preliminary was.preliminary k l)
     (either_state turn.throw s.reliable s.preliminary was.reliable was.preliminary) in
-    rw (analyzed_turned s p peak speechLevel)
-    (passing_whole (turned_to b peak speechLevel s)
+    rw (analyzed_turned s p peak speech_level)
+    (passing_whole (turned_to b peak speech_level s)
     (record {
       initial = was.initial;
       threshold = was.threshold;
       count = either_count b s.threshold s.count was.count;
       headroom =
-          either_headroom turn.publish (preliminary_of b peak speechLevel s).headroom s.headroom
-          (passed (preliminary_of b peak speechLevel s) preliminary).headroom was.headroom;
+          either_headroom turn.publish (preliminary_of b peak speech_level s).headroom s.headroom
+          (passed (preliminary_of b peak speech_level s) preliminary).headroom was.headroom;
       preliminary = preliminary;
       reliable = either_state turn.keep s.preliminary s.reliable was.preliminary was.reliable;
-      alike = turned_alike s b peak speechLevel h;
+      alike = turned_alike s b peak speech_level h;
     }))
 
 -- ---- the calls: where the reply is 0, the state that comes out passes
@@ -94,24 +94,24 @@ made_passes initial t n h =
     rw (k.1, k.2) (fresh_passes initial t n k.2 (both 0) (both 1))
 
 -- An accepted frame is one of figures in their ranges, of a protector that passes.
-pub accepted : (s : Protector) (p peak speechLevel : Float) → (stepped s p peak speechLevel).reply ≡ done
-    → (passes s ≡ true) × (figures p peak speechLevel ≡ true)
+pub accepted : (s : Protector) (p peak speech_level : Float) → (stepped s p peak speech_level).reply ≡ done
+    → (passes s ≡ true) × (figures p peak speech_level ≡ true)
 unfolding stepped
-accepted s p peak speechLevel h = let k = none_refused true (passes s) (figures p peak speechLevel) true h in (k.1, k.2)
+accepted s p peak speech_level h = let k = none_refused true (passes s) (figures p peak speech_level) true h in (k.1, k.2)
 
 -- What an accepted frame hands back.
-pub stepped_analyzed : (s : Protector) (p peak speechLevel : Float) → passes s ≡ true → figures p peak speechLevel ≡ true
-    → (stepped s p peak speechLevel).protector ≡ analyzed s p peak speechLevel
+pub stepped_analyzed : (s : Protector) (p peak speech_level : Float) → passes s ≡ true → figures p peak speech_level ≡ true
+    → (stepped s p peak speech_level).protector ≡ analyzed s p peak speech_level
 unfolding stepped
-stepped_analyzed s p peak speechLevel h k = rw (h, k) refl
+stepped_analyzed s p peak speech_level h k = rw (h, k) refl
 
 -- After a frame that is not refused the protector passes.
-pub stepped_passes : (s : Protector) (p peak speechLevel : Float) → (stepped s p peak speechLevel).reply ≡ done
-    → passes (stepped s p peak speechLevel).protector ≡ true
-stepped_passes s p peak speechLevel h =
-    let k = accepted s p peak speechLevel h in
-    let q = each_of (probability p ∷ level peak ∷ level speechLevel ∷ []) k.1 in
-    rw (stepped_analyzed s p peak speechLevel k.0 k.1) (analyzed_passes s p peak speechLevel k.0 (q 1) (q 2))
+pub stepped_passes : (s : Protector) (p peak speech_level : Float) → (stepped s p peak speech_level).reply ≡ done
+    → passes (stepped s p peak speech_level).protector ≡ true
+stepped_passes s p peak speech_level h =
+    let k = accepted s p peak speech_level h in
+    let q = each_of (probability p ∷ level peak ∷ level speech_level ∷ []) k.1 in
+    rw (stepped_analyzed s p peak speech_level k.0 k.1) (analyzed_passes s p peak speech_level k.0 (q 1) (q 2))
 
 -- After a reset that is not refused the protector passes.
 pub reset_passes : (s : Protector) → (reset s).reply ≡ done → passes (reset s).protector ≡ true

@@ -1,7 +1,7 @@
 -- A state that passes goes on passing: the headroom stays from 12 to 25, slots and largest peak from -150 to 50, and the time from 0 to 400 in tens. Laws.
 -- Assumes nothing.
 use Rattle.std.specs.Prelude.{◌≡◌, refl, Bool, true, false, cond, ℕ, ◌+◌, ◌%◌, ltb, Float}
-use Rattle.std.proofs.Common.{sym, ap, ◌∙◌, arith, ltb-false, le-leb, eq-eqb}
+use Rattle.std.proofs.Common.{arith, ltb-false, le-leb, eq-eqb}
 use Rattle.std.proofs.Math.Seq.{take-set-lt}
 use Rattle.std.specs.Float.Ieee.{binary32, sub}
 use Rattle.lists.specs.Tests.{◌and◌}
@@ -34,7 +34,7 @@ restarted_passes h s p q =
     passing (restarted h s)
     (record { headroom = p; ring = Rings.reset_passes s.ring was.ring; stored = was.stored; largest = lowest_level; time = refl })
 
-module _ (peak speechLevel : Float) (s : Peaks) (h : passes s ≡ true) (p : level peak ≡ true) (l : level speechLevel ≡ true) where
+module _ (peak speech_level : Float) (s : Peaks) (h : passes s ≡ true) (p : level peak ≡ true) (l : level speech_level ≡ true) where
   -- the largest peak with this one in it, whether it is pushed, and the ring and the largest peak after that
   abbrev new : Float
   new = larger s.largest peak
@@ -68,13 +68,13 @@ module _ (peak speechLevel : Float) (s : Peaks) (h : passes s ≡ true) (p : lev
   largest_level_lem = either_level due lowest new lowest_level new_level
 
   -- The headroom after a frame lies from 12 to 25.
-  pub advanced_in : In least most (advanced peak speechLevel s).headroom
+  pub advanced_in : In least most (advanced peak speech_level s).headroom
   unfolding advanced
   advanced_in =
       let oldest = oldest_or (Ring.items ring) largest in
       let o = level_finite oldest (oldest_level (Ring.items ring) largest (items_levels ring ring_levels) largest_level_lem) in
-      nearer_in s.headroom (sub binary32 oldest speechLevel) (passed s h).headroom
-      (sub_real oldest speechLevel (so o) (finite_real speechLevel (so (level_finite speechLevel l))))
+      nearer_in s.headroom (sub binary32 oldest speech_level) (passed s h).headroom
+      (sub_real oldest speech_level (so o) (finite_real speech_level (so (level_finite speech_level l))))
 
   later : time (cond due 0 (s.elapsed + frame_time)) ≡ true
   later = go due refl
@@ -86,12 +86,12 @@ module _ (peak speechLevel : Float) (s : Peaks) (h : passes s ≡ true) (p : lev
           le-leb (s.elapsed + frame_time) longest (ltb-false longest (s.elapsed + frame_time) e) and eq-eqb ((s.elapsed + frame_time) % 10) 0 (omega arith)
 
   -- A state that passes, advanced by a peak and a level of the speech from -150 to 50, passes again.
-  pub advanced_passes : passes (advanced peak speechLevel s) ≡ true
+  pub advanced_passes : passes (advanced peak speech_level s) ≡ true
   unfolding advanced
   advanced_passes =
-      passing (advanced peak speechLevel s)
+      passing (advanced peak speech_level s)
       (record {
-        headroom = in_headroom (advanced peak speechLevel s).headroom advanced_in;
+        headroom = in_headroom (advanced peak speech_level s).headroom advanced_in;
         ring = pushed_when_passes due s.ring new (passed s h).ring (level_finite new new_level);
         stored = ring_levels;
         largest = largest_level_lem;

@@ -1,19 +1,11 @@
 -- `saturation_protector_buffer::same_from` meets its contract. The invariant: what was found so far, and the comparison of what is left, is the comparison
 -- of the whole. Assumes nothing.
-use mathlib.Core.Bool.{Bool, ◌&&◌, and_assoc, and-true}
-use mathlib.Core.List.{List}
-use mathlib.Core.Path.{◌≡◌, sym, ◌∙◌}
-use Prim.Native.Nat.{ℕ, ◌+◌, ◌≤◌, ◌<◌, ◌-◌, ◌%◌}
-use native.Mathlib.Nat.{mod-lt}
-use native.Mathlib.Omega.{arith}
-use lib.Ieee.{Float, nan, eq}
-use lib.ListN.{length, drop, get_or, drop_of_length-le}
-use borrow.Author.Rules.{rules}
-use Rattle.lists.specs.Stores.{next}
+use mathlib.Core.Bool.{◌&&◌}
+use mathlib.Core.Path.{◌≡◌}
+use Prim.Native.Nat.{◌≤◌, ◌-◌}
+use lib.ListN.{drop}
 use Rattle.saturation_protector_buffer.specs.Rings.{same_items}
-use Rattle.saturation_protector_buffer.specs.Ring.{largest}
 use Rattle.saturation_protector_buffer.specs.Steps.{round}
-use Rattle.saturation_protector_buffer.specs.Laws.Places.{length_round, round_at}
 use Rattle.saturation_protector_buffer.proofs.same_from.Given as goal
 
 abbrev pub invariant-loop-i : goal.invariant-loop-i

@@ -1,6 +1,6 @@
 -- What is stored from the capacity on: no call changes it, and none reads it. Laws.
 -- Assumes nothing.
-use Rattle.std.specs.Prelude.{◌≡◌, Bool, ◌&&◌, cond, List, ℕ, set, drop, Float}
+use Rattle.std.specs.Prelude.{◌≡◌, Bool, ◌&&◌, cond, ℕ, drop, Float}
 use Rattle.std.proofs.Math.Path.{refl, ap₂}
 use Rattle.std.proofs.Common.{sym, ap, ◌∙◌, drop-set-lt}
 use Rattle.std.proofs.Math.Bool.{true, false}

@@ -1,6 +1,6 @@
 -- The oldest of a ring, in the Rust's words: none where there is no item, and otherwise what is stored at the front index. Laws.
 -- Assumes nothing.
-use Rattle.std.specs.Prelude.{◌≡◌, refl, List, [], ◌∷◌, ℕ, ◌<◌, ◌≤◌, length, get_or, Float}
+use Rattle.std.specs.Prelude.{◌≡◌, refl, List, [], ◌∷◌, ◌<◌, ◌≤◌, length, get_or, Float}
 use Rattle.std.proofs.Common.{ap, ◌∙◌, not-suc-le-zero, arith}
 use Rattle.std.proofs.Math.Arith.{le-zero}
 use Rattle.std.specs.Float.{nan}

@@ -10,7 +10,7 @@ use Rattle.std.specs.Float.Ieee.Scale.{finite}
 use Rattle.lists.specs.Tests.{each_of, ◌and◌}
 use Rattle.units.specs.Replies.{done}
 use Rattle.units.specs.Laws.Replies.{none_refused}
-use Rattle.saturation_protector_buffer.specs.Rings.{all_finite, after, more}
+use Rattle.saturation_protector_buffer.specs.Rings.{all_finite}
 use Rattle.saturation_protector_buffer.specs.Ring.{largest, is_capacity, empty, slots, fits, passes, push, reset}
 use Rattle.saturation_protector_buffer.specs.Calls.{made, pushed, forgotten}
 use Rattle.saturation_protector_buffer.specs.Steps.{Within}

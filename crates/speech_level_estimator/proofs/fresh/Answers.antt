@@ -1,5 +1,4 @@
 -- `speech_level_estimator::fresh` meets its contract: field by field. Assumes nothing.
-use Rattle.std.proofs.Common.{rules}
 use Rattle.speech_level_estimator.specs.Estimator.{fresh}
 use Rattle.speech_level_estimator.proofs.fresh.Goals as goal
 

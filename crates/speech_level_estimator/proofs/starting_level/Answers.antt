@@ -1,5 +1,4 @@
 -- `speech_level_estimator::starting_level` meets its contract: one clamp. Assumes nothing.
-use Rattle.std.proofs.Common.{rules}
 use Rattle.speech_level_estimator.specs.Estimator.{starting_level}
 use Rattle.speech_level_estimator.proofs.starting_level.Goals as goal
 

@@ -13,7 +13,7 @@ use Rattle.runs.specs.Runs as Runs
 use Rattle.runs.specs.Runs.{Run, speech, framed, published}
 use Rattle.runs.specs.Histories.{after, AllSpeech, Settled}
 use Rattle.runs.specs.Laws.Counts.{longer_below}
-use Rattle.runs.specs.Laws.Short.{framed_settled, short_run}
+use Rattle.runs.proofs.Short.{framed_settled, short_run}
 use Rattle.speech_level_estimator.specs.Average as Average
 use Rattle.speech_level_estimator.specs.Estimator.{run, passes, fresh, updated}
 use Rattle.speech_level_estimator.specs.Calls.{made, stepped, restarted}

@@ -30,17 +30,17 @@ figures_at-requires c =
 
 module _ (v : Version) (strip : List ℕ) (at : ℕ) where
   -- whether a gap stands at the place
-  abbrev gapHere : Bool
-  gapHere = leb (at + 2) (length strip) && is_gap v (number_at strip at 2)
+  abbrev gap_here : Bool
+  gap_here = leb (at + 2) (length strip) && is_gap v (number_at strip at 2)
 
   -- where a gap stands, it is found
-  a-gap : {r : Told} (here : Bool) → here ≡ gapHere → here ≡ true → r ≡ told_of (found gap) → r ≡ told_of (read_record v strip at)
+  a-gap : {r : Told} (here : Bool) → here ≡ gap_here → here ≡ true → r ≡ told_of (found gap) → r ≡ told_of (read_record v strip at)
   a-gap here p t k =
       let both = each_of (leb (at + 2) (length strip) ∷ is_gap v (number_at strip at 2) ∷ []) (sym p ∙ t) in
       k ∙ ap told_of (sym (record_gap v strip at (leb-true (at + 2) (length strip) (both 0)) (both 1)))
 
   -- where none stands, the record is read by its place: a single byte is cut in any case
-  by_place : gapHere ≡ false → at < length strip
+  by_place : gap_here ≡ false → at < length strip
       → read_record v strip at ≡ cond (eqb (record_place strip at) done) (judged_record (figures_of (fields_at record_fields strip at))) (refused_record (record_place strip at))
   unfolding read_record record_place
   by_place g l = go (leb (at + 2) (length strip)) refl g
@@ -50,12 +50,12 @@ module _ (v : Version) (strip : List ℕ) (at : ℕ) where
       go true e n = record_by_place v strip at n ∙ rw (lt-ltb at (length strip) l)
       go false e n = rw (lt-ltb at (length strip) l, e)
 
-  whole : {r : Told} (here : Bool) (place : ℕ) (figures : Figures) → at < length strip → here ≡ gapHere → here ≡ false → place ≡ record_place strip at → place ≡ done
+  whole : {r : Told} (here : Bool) (place : ℕ) (figures : Figures) → at < length strip → here ≡ gap_here → here ≡ false → place ≡ record_place strip at → place ≡ done
       → figures ≡ figures_of (fields_at record_fields strip at) → r ≡ told_of (judged_record figures) → r ≡ told_of (read_record v strip at)
   whole here place figures l g n p d h k =
       k ∙ ap (λ (f : Figures). told_of (judged_record f)) h ∙ ap told_of (sym (by_place (sym g ∙ n) l ∙ rw (← p, d)))
 
-  refused : {r : Told} (here : Bool) (place : ℕ) → at < length strip → here ≡ gapHere → here ≡ false → place ≡ record_place strip at → (place ≡ done → ⊥)
+  refused : {r : Told} (here : Bool) (place : ℕ) → at < length strip → here ≡ gap_here → here ≡ false → place ≡ record_place strip at → (place ≡ done → ⊥)
       → r ≡ told_of (refused_record place) → r ≡ told_of (read_record v strip at)
   refused here place l g n p d k = k ∙ ap told_of (sym (by_place (sym g ∙ n) l ∙ rw (← p, ne_eqb place done d)))
 

@@ -15,14 +15,14 @@ use Rattle.wav_format.specs.declared.head.Format.{Format}
 
 module _ (bytes : List ℕ) where
   -- The numbers of a format chunk, one choice after the other.
-  pub by_choices : {tag later channels rate group bits afterGroup afterKind afterLength r : ℕ} {sizes : Bool}
+  pub by_choices : {tag later channels rate group bits after_group after_kind after_length r : ℕ} {sizes : Bool}
       → tag ≡ little_at bytes 0 2 → later ≡ little_at bytes 24 2 → channels ≡ little_at bytes 2 2
       → rate ≡ little_at bytes 4 4 → group ≡ little_at bytes 12 2 → bits ≡ little_at bytes 14 2
       → sizes ≡ is_samples (rate / 100)
-      → afterGroup ≡ cond (nat_le 1 channels && nat_le channels 8 && rate % 100 == 0 && sizes) done bad_shape
-      → afterKind ≡ cond (group == 2 * channels) afterGroup bad_length
-      → afterLength ≡ cond ((tag == 1 || (tag == 65534 && later == 1)) && bits == 16) afterKind bad_version
-      → r ≡ cond (nat_le 16 (length bytes)) afterLength cut
+      → after_group ≡ cond (nat_le 1 channels && nat_le channels 8 && rate % 100 == 0 && sizes) done bad_shape
+      → after_kind ≡ cond (group == 2 * channels) after_group bad_length
+      → after_length ≡ cond ((tag == 1 || (tag == 65534 && later == 1)) && bits == 16) after_kind bad_version
+      → r ≡ cond (nat_le 16 (length bytes)) after_length cut
       → r ≡ format_refusal bytes
   unfolding format_refusal plain takeable
   by_choices t l c s g b z h i j k = rw (← t, ← l, ← c, ← s, ← g, ← b, ← z, ← h, ← i, ← j) k

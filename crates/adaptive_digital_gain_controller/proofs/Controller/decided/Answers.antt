@@ -1,5 +1,5 @@
 -- `adaptive_digital_gain_controller::Controller::decided` meets its contract. Assumes nothing.
-use Rattle.std.proofs.Common.{◌≡◌, ℕ, Bool, ◌&&◌, eqb, ltb, rules}
+use Rattle.std.proofs.Common.{◌≡◌, ℕ, Bool, ◌&&◌, eqb, ltb}
 use lib.Ieee.{Float, binary32, add}
 use Rattle.runs.specs.Runs.{speech}
 use Rattle.gain_applier.specs.declared.Applier.{Applier as Gain}

@@ -1,5 +1,4 @@
 -- `adaptive_digital_gain_controller::Controller::gap` meets its contract. Assumes nothing.
-use Rattle.std.proofs.Common.{rules}
 use Rattle.adaptive_digital_gain_controller.specs.Calls.{gap}
 use Rattle.adaptive_digital_gain_controller.proofs.Controller.gap.Goals as goal
 

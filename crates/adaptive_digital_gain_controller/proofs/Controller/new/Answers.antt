@@ -1,7 +1,7 @@
 -- `adaptive_digital_gain_controller::Controller::new` meets its contract. Assumes nothing.
 use Rattle.adaptive_digital_gain_controller.specs.Calls.{made}
 use Rattle.adaptive_digital_gain_controller.specs.Controller.{fresh, nothing}
-use Rattle.std.proofs.Common.{◌≡◌, false, refl, rules}
+use Rattle.std.proofs.Common.{◌≡◌, false, refl}
 use lib.Ieee.{binary32, of_bits, lt}
 use Rattle.gain_applier.specs.Applier as Applier
 use Rattle.adaptive_digital_gain_controller.proofs.Controller.new.Goals as goal

@@ -1,5 +1,5 @@
 -- `adaptive_digital_gain_controller::Controller::passes` meets its contract. Assumes nothing.
-use Rattle.std.proofs.Common.{◌≡◌, Bool, ◌&&◌, leb, rules}
+use Rattle.std.proofs.Common.{◌≡◌, Bool, ◌&&◌, leb}
 use lib.Ieee.{Float, eq, le}
 use Rattle.units.specs.Figures.{gain}
 use Rattle.units.specs.Settings as Settings

@@ -1,5 +1,5 @@
 -- `adaptive_digital_gain_controller::Info::accepted` meets its contract. Assumes nothing.
-use Rattle.std.proofs.Common.{◌≡◌, Bool, ◌&&◌, rules}
+use Rattle.std.proofs.Common.{◌≡◌, Bool, ◌&&◌}
 use Rattle.units.specs.Figures.{probability, level, headroom, envelope}
 use Rattle.adaptive_digital_gain_controller.specs.declared.Info.{Info}
 use Rattle.adaptive_digital_gain_controller.specs.Controller.{accepted}

@@ -2,7 +2,6 @@
 use mathlib.Core.Path.{◌≡◌, sym, ◌∙◌}
 use mathlib.Core.Bool.{Bool, true}
 use Prim.Native.Nat.{ℕ}
-use borrow.Author.Rules.{rules}
 use Rattle.units.specs.Replies.{refusal}
 use Rattle.speech_level_estimator.specs.Calls as Level
 use Rattle.speech_level_estimator.specs.declared.Next as Levels

@@ -1,5 +1,4 @@
 -- `chain::Chain::new` meets its contract: the parts are made of a threshold and samples that are 0 where the chain is refused. Assumes nothing.
-use borrow.Author.Rules.{rules}
 use Rattle.chain.specs.Laws.Start.{made_parts}
 use Rattle.chain.proofs.Chain.new.Goals as goal
 

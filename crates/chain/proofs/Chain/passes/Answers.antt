@@ -9,7 +9,6 @@ use Rattle.adaptive_digital_gain_controller.specs.Controller as Gain
 use Rattle.limiter.specs.Limiter as Limiting
 use Rattle.chain.specs.Chain.{initial, alike, passes}
 use Rattle.chain.specs.declared.Chain.{Chain}
-use borrow.Author.Rules.{rules}
 use Rattle.chain.proofs.Chain.passes.Goals as goal
 
 -- the definition, with what the calls gave

@@ -8,7 +8,6 @@ use Rattle.chain.specs.Chain.{passes, published}
 use Rattle.chain.specs.Calls.{nothing_published, published_told}
 use Rattle.chain.specs.declared.Chain.{Chain}
 use Rattle.chain.specs.declared.Reading.{Reading}
-use borrow.Author.Rules.{rules}
 use Rattle.chain.proofs.Chain.published.Goals as goal
 
 -- figure by figure, or all at once

@@ -1,5 +1,4 @@
 -- `chain::Chain::refused` meets its contract: it is the first number of the three tests. Assumes nothing.
-use borrow.Author.Rules.{rules}
 use Rattle.chain.proofs.Chain.refused.Goals as goal
 
 pub returns : goal.returns

@@ -1,6 +1,5 @@
 -- `chain::Chain::samples` meets its contract. Assumes nothing.
 use Rattle.chain.specs.Calls.{samples_told}
-use borrow.Author.Rules.{rules}
 use Rattle.chain.proofs.Chain.samples.Goals as goal
 
 pub returns : goal.returns

@@ -8,7 +8,6 @@ use native.Mathlib.Omega.{arith}
 use lib.Dec.{eqb}
 use lib.Ieee.{Float}
 use lib.ListN.{length, get_or}
-use borrow.Author.Rules.{rules}
 use borrow.Author.Tests.{eqb-true, ne_eqb}
 use Rattle.units.specs.Replies.{done, refusal}
 use Rattle.units.specs.declared.kinds.LinearS16.{LinearS16}

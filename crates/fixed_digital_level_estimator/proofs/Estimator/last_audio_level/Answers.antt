@@ -7,7 +7,6 @@ use Rattle.units.specs.Replies.{refusal}
 use Rattle.fixed_digital_level_estimator.specs.declared.Estimator.{Estimator}
 use Rattle.fixed_digital_level_estimator.specs.declared.Heard.{Heard}
 use Rattle.fixed_digital_level_estimator.specs.Estimator.{passes, heard}
-use borrow.Author.Rules.{rules}
 use Rattle.fixed_digital_level_estimator.proofs.Estimator.last_audio_level.Goals as goal
 
 -- the answer, with what the calls gave

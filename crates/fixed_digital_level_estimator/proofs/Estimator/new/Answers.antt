@@ -8,7 +8,6 @@ use Rattle.frames.specs.Shape.{is_samples}
 use Rattle.fixed_digital_level_estimator.specs.declared.Estimator.{Estimator}
 use Rattle.fixed_digital_level_estimator.specs.declared.Next.{Next}
 use Rattle.fixed_digital_level_estimator.specs.Estimator.{made, none, sized_to}
-use borrow.Author.Rules.{rules}
 use Rattle.fixed_digital_level_estimator.proofs.Estimator.new.Goals as goal
 
 -- no samples, no state

@@ -7,7 +7,6 @@ use Rattle.units.specs.Figures.{curve_level}
 use Rattle.frames.specs.Shape.{is_samples}
 use Rattle.fixed_digital_level_estimator.specs.declared.Estimator.{Estimator}
 use Rattle.fixed_digital_level_estimator.specs.Estimator.{passes}
-use borrow.Author.Rules.{rules}
 use Rattle.fixed_digital_level_estimator.proofs.Estimator.passes.Goals as goal
 
 -- the state's test, with what the two that are called gave

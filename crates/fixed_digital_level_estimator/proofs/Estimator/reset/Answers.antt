@@ -7,7 +7,6 @@ use Rattle.units.specs.Replies.{refusal}
 use Rattle.fixed_digital_level_estimator.specs.declared.Estimator.{Estimator}
 use Rattle.fixed_digital_level_estimator.specs.declared.Next.{Next}
 use Rattle.fixed_digital_level_estimator.specs.Estimator.{passes, cleared}
-use borrow.Author.Rules.{rules}
 use Rattle.fixed_digital_level_estimator.proofs.Estimator.reset.Goals as goal
 
 -- the level is what differs

@@ -7,7 +7,6 @@ use Rattle.frames.specs.Shape.{is_samples}
 use Rattle.fixed_digital_level_estimator.specs.declared.Estimator.{Estimator}
 use Rattle.fixed_digital_level_estimator.specs.declared.Next.{Next}
 use Rattle.fixed_digital_level_estimator.specs.Estimator.{passes, changed, sized_to}
-use borrow.Author.Rules.{rules}
 use Rattle.fixed_digital_level_estimator.proofs.Estimator.set_samples_per_channel.Goals as goal
 
 -- the answer, with what the calls gave

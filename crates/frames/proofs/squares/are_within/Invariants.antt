@@ -1,16 +1,9 @@
 -- `frames::squares::are_within` meets its contract. The invariant: what was found so far, and the test of what is left, is the test of the whole. Assumes nothing.
-use mathlib.Core.Bool.{Bool, ◌&&◌, and_assoc}
-use mathlib.Core.List.{List}
-use mathlib.Core.Path.{◌≡◌, sym, ap, ◌∙◌}
-use Prim.Native.Nat.{ℕ, ◌+◌, ◌-◌, ◌≤◌}
-use native.Mathlib.Nat.{le_of_eq}
-use lib.Ieee.{Float}
-use lib.ListN.{length, take, drop, take-append-drop, length-drop}
-use lib.Seq.{drop-drop, take_all}
+use mathlib.Core.Bool.{◌&&◌}
+use mathlib.Core.Path.{◌≡◌}
+use Prim.Native.Nat.{◌-◌, ◌≤◌}
+use lib.ListN.{length, drop}
 use Rattle.frames.specs.Samples.{all_within}
-use Rattle.frames.specs.Facts.{within_append}
-use borrow.Author.Rules.{rules}
-use native.Mathlib.Omega.{arith}
 use Rattle.frames.proofs.squares.are_within.Given as goal
 
 abbrev pub invariant-loop-at : goal.invariant-loop-at

@@ -1,9 +1,9 @@
 -- `gain_applier::Applier::apply_gain` meets its contract: a frame that is not refused has the shape that the walk asks for. Assumes nothing.
-use Rattle.std.proofs.Common.{◌≡◌, ℕ, ◌*◌, ◌^◌, ◌<◌, ◌≤◌, Bool, true, List, length, ℤ, pos, sym, ◌∙◌, arith, w32, rules, ne_eqb}
+use Rattle.std.proofs.Common.{◌≡◌, ℕ, ◌*◌, ◌^◌, ◌<◌, ◌≤◌, Bool, true, List, length, ℤ, pos, sym, ◌∙◌, arith, w32, ne_eqb}
 use lib.Ieee.{Float}
 use mir.Facts.{to_z_pos}
 use Rattle.units.specs.Replies.{done}
-use Rattle.frames.specs.Facts.{Sizes, Taken, taken, shape_facts}
+use Rattle.frames.specs.Facts.{Sizes, taken, shape_facts}
 use Rattle.frames.specs.Refusal.{frame_refusal}
 use Rattle.frames.specs.Samples.{largest_input}
 use Rattle.gain_applier.specs.Applier.{passes, applied, arrived, inverse_of}
@@ -48,9 +48,9 @@ module _ (a : Applier) (frame : List Float) (channels samples : ℕ) (ok : Bool)
 pub returns-then-reply-eq-DONE : goal.returns-then-reply-eq-DONE
 returns-then-reply-eq-DONE c =
     let both =
-        applies _ _ _ _ _ _ c.passes-ok.ensures c.refusal-reply.ensures _ _ _ _ c.if-reply-eq-DONE.true
-        (to_z_pos w32 (narrow (facts _ c.args.channels c.args.samples _ _ c.refusal-reply.ensures c.if-reply-eq-DONE.true).0.each.most)) c.inverse_of-inverse.ensures
-        c.put_gain.ensures c.finish.ensures in
+    applies _ _ _ _ _ _ c.passes-ok.ensures c.refusal-reply.ensures _ _ _ _ c.if-reply-eq-DONE.true
+    (to_z_pos w32 (narrow (facts _ c.args.channels c.args.samples _ _ c.refusal-reply.ensures c.if-reply-eq-DONE.true).0.each.most)) c.inverse_of-inverse.ensures
+    c.put_gain.ensures c.finish.ensures in
     record { value = both.0; frame_after = both.1 }
 
 pub returns-else-reply-eq-DONE : goal.returns-else-reply-eq-DONE

@@ -1,5 +1,5 @@
 -- `gain_applier::Applier::get_gain_factor` meets its contract. Assumes nothing.
-use Rattle.std.proofs.Common.{◌≡◌, ℕ, Bool, true, cond, rules}
+use Rattle.std.proofs.Common.{◌≡◌, ℕ, Bool, true, cond}
 use lib.Ieee.{Float, binary32, of_bits}
 use Rattle.units.specs.Replies.{refusal}
 use Rattle.gain_applier.specs.Applier.{passes, told}

@@ -1,5 +1,4 @@
 -- `gain_applier::Applier::new` meets its contract. Assumes nothing.
-use Rattle.std.proofs.Common.{sym, ◌∙◌, rules}
 use lib.Ieee.{neg, of_bits}
 use Rattle.gain_applier.specs.Applier.{made}
 use Rattle.gain_applier.proofs.Applier.new.Goals as goal

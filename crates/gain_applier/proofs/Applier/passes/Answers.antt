@@ -1,5 +1,5 @@
 -- `gain_applier::Applier::passes` meets its contract. Assumes nothing.
-use Rattle.std.proofs.Common.{◌≡◌, Bool, ◌&&◌, ℤ, to_z-of_z, w32, to_z, of_z, rules}
+use Rattle.std.proofs.Common.{◌≡◌, Bool, ◌&&◌, ℤ, w32, to_z, of_z, rules}
 use lib.Ieee.{Float, eq}
 use Rattle.units.specs.Figures.{gain_factor}
 use Rattle.gain_applier.specs.Applier.{remembered, inverse_of, passes}

@@ -1,5 +1,5 @@
 -- `gain_applier::Applier::set_gain_factor` meets its contract. Assumes nothing.
-use Rattle.std.proofs.Common.{◌≡◌, ℕ, Bool, true, false, cond, ◌&&◌, refl, rules}
+use Rattle.std.proofs.Common.{◌≡◌, ℕ, Bool, true, false, cond, ◌&&◌, refl}
 use lib.Ieee.{Float}
 use Rattle.units.specs.Figures.{gain_factor}
 use Rattle.units.specs.Replies.{refusal}

@@ -1,5 +1,4 @@
 -- `interpolated_gain_curve::Curve::get_stats` meets its contract: the test of the state is the definition's. Assumes nothing.
-use Rattle.std.proofs.Common.{rules}
 use Rattle.units.specs.Replies.{refusal}
 use Rattle.interpolated_gain_curve.specs.Curve.{read}
 use Rattle.interpolated_gain_curve.proofs.Curve.get_stats.Goals as goal

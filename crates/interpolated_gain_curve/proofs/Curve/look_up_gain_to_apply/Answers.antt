@@ -1,5 +1,5 @@
 -- `interpolated_gain_curve::Curve::look_up_gain_to_apply` meets its contract: where the state and the level pass, the step; otherwise nothing. Assumes nothing.
-use Rattle.std.proofs.Common.{◌≡◌, ℕ, Bool, true, false, ◌&&◌, sym, ◌∙◌, rules}
+use Rattle.std.proofs.Common.{◌≡◌, ℕ, Bool, true, false, ◌&&◌, sym, ◌∙◌}
 use lib.Ieee.{Float, binary32, of_bits}
 use lib.Ieee.Fits.{and_l}
 use Rattle.floats.specs.Laws.Kinds.{passed}

@@ -3,7 +3,6 @@ use mathlib.Core.Path.{sym, ap}
 use Rattle.chain.specs.Answer.{said}
 use Rattle.chain.specs.declared.Answer.{Answer}
 use Rattle.kept.specs.Calls.{kept_answer}
-use borrow.Author.Rules.{rules}
 use Rattle.kept.proofs.calls.answer_as_numbers.Goals as goal
 
 pub returns-in-NonSpeech : goal.returns-in-NonSpeech

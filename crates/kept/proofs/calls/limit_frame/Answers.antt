@@ -2,7 +2,6 @@
 use mathlib.Core.Path.{◌≡◌, sym, ◌∙◌}
 use Rattle.kept.specs.Laws.Calls.{limiter_joined, limiter_let_be, limiter_turned_away}
 use Rattle.units.specs.Replies.{done}
-use borrow.Author.Rules.{rules}
 use Rattle.kept.proofs.calls.limit_frame.Goals as goal
 
 pub returns-then-limited-eq-DONE : goal.returns-then-limited-eq-DONE

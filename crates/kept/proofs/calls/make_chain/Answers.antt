@@ -1,6 +1,5 @@
 -- `kept::calls::make_chain` meets its contract. Assumes nothing.
 use Rattle.kept.specs.Calls.{chain_made}
-use borrow.Author.Rules.{rules}
 use Rattle.kept.proofs.calls.make_chain.Goals as goal
 
 pub returns : goal.returns

@@ -1,6 +1,5 @@
 -- `kept::calls::make_limiter` meets its contract. Assumes nothing.
 use Rattle.kept.specs.Calls.{limiter_made}
-use borrow.Author.Rules.{rules}
 use Rattle.kept.proofs.calls.make_limiter.Goals as goal
 
 pub returns : goal.returns

@@ -1,6 +1,5 @@
 -- `kept::calls::mark_gap` meets its contract: the gap is that of the chain inside, or it is refused. Assumes nothing.
 use Rattle.kept.specs.Laws.Gaps.{chain_gap_joined, chain_gap_let_be}
-use borrow.Author.Rules.{rules}
 use Rattle.kept.proofs.calls.mark_gap.Goals as goal
 
 pub returns-then-is_sound-gapped : goal.returns-then-is_sound-gapped

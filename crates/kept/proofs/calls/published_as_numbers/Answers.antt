@@ -1,6 +1,5 @@
 -- `kept::calls::published_as_numbers` meets its contract: field by field. Assumes nothing.
 use Rattle.kept.specs.Calls.{kept_published}
-use borrow.Author.Rules.{rules}
 use Rattle.kept.proofs.calls.published_as_numbers.Goals as goal
 
 pub returns : goal.returns

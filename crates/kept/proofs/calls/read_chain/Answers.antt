@@ -1,5 +1,5 @@
 -- `kept::calls::read_chain` meets its contract: what the chain tells, or it is refused. Assumes nothing.
-use mathlib.Core.Bool.{true, false}
+use mathlib.Core.Bool.{true}
 use mathlib.Core.Path.{◌≡◌, sym, ◌∙◌}
 use Rattle.chain.specs.Calls as Chaining
 use Rattle.chain.specs.declared.Chain.{Chain}
@@ -9,7 +9,6 @@ use Rattle.kept.specs.Calls.{kept_published, chain_read}
 use Rattle.kept.specs.declared.calls.Reading.{Reading}
 use Rattle.kept.specs.declared.calls.Published.{Published}
 use Rattle.chain.specs.declared.Reading.{Reading as ChainReading}
-use borrow.Author.Rules.{rules}
 use Rattle.kept.proofs.calls.read_chain.Goals as goal
 
 -- the answer, with what the calls gave

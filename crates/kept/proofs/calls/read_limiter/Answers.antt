@@ -8,7 +8,6 @@ use Rattle.kept.specs.declared.states.KeptLimiter.{KeptLimiter}
 use Rattle.limiter.specs.Limiter as Limiting
 use Rattle.limiter.specs.declared.Limiter.{Limiter}
 use Rattle.limiter.specs.declared.Heard.{Heard}
-use borrow.Author.Rules.{rules}
 use Rattle.kept.proofs.calls.read_limiter.Goals as goal
 
 -- the answer, with what the calls gave

@@ -1,5 +1,4 @@
 -- `kept::calls::refuse_state` meets its contract. Assumes nothing.
-use borrow.Author.Rules.{rules}
 use Rattle.kept.proofs.calls.refuse_state.Goals as goal
 
 pub returns : goal.returns

@@ -4,7 +4,6 @@ use Rattle.units.specs.Replies.{done}
 use Rattle.kept.specs.States.{envelope_of, limiter_of, chain_of}
 use Rattle.chain.specs.Answer.{said}
 use Rattle.kept.specs.Laws.Calls.{chain_joined, chain_let_be, chain_turned_away}
-use borrow.Author.Rules.{rules}
 use Rattle.kept.proofs.calls.take_frame.Goals as goal
 
 pub returns-then-next-eq-DONE : goal.returns-then-next-eq-DONE

@@ -1,7 +1,6 @@
 -- `kept::states::narrow` meets its contract. Assumes nothing.
 use mathlib.Core.Path.{refl}
 use Rattle.kept.specs.States.{narrow}
-use borrow.Author.Rules.{rules}
 use Rattle.kept.proofs.states.narrow.Goals as goal
 
 pub returns : goal.returns

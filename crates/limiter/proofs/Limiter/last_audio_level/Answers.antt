@@ -7,7 +7,6 @@ use Rattle.units.specs.Replies.{refusal}
 use Rattle.limiter.specs.declared.Limiter.{Limiter}
 use Rattle.limiter.specs.declared.Heard.{Heard}
 use Rattle.limiter.specs.Limiter.{passes, heard}
-use borrow.Author.Rules.{rules}
 use Rattle.limiter.proofs.Limiter.last_audio_level.Goals as goal
 
 -- the answer, with what the calls gave

@@ -7,7 +7,6 @@ use Rattle.interpolated_gain_curve.specs.Curve.{fresh}
 use Rattle.limiter.specs.declared.Limiter.{Limiter}
 use Rattle.limiter.specs.Limiter.{made, starting, none}
 use Rattle.limiter.specs.Limiter.{made}
-use borrow.Author.Rules.{rules}
 use Rattle.limiter.proofs.Limiter.new.Goals as goal
 
 -- fields that are chosen, or a state that is

@@ -5,7 +5,6 @@ use Rattle.interpolated_gain_curve.specs.Curve as Curves
 use Rattle.fixed_digital_level_estimator.specs.Estimator as Estimators
 use Rattle.limiter.specs.declared.Limiter.{Limiter}
 use Rattle.limiter.specs.Limiter.{carried_factor, passes}
-use borrow.Author.Rules.{rules}
 use Rattle.limiter.proofs.Limiter.passes.Goals as goal
 
 -- the state's test, with what the two that are called gave

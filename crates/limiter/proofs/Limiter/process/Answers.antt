@@ -1,8 +1,8 @@
 -- `limiter::Limiter::process` meets its contract: the frame that is taken has the shape that each step asks for, and each step's promise is a part of the definition. Assumes nothing.
-use mathlib.Core.Path.{◌≡◌, refl, sym, ap, ap₂, ◌∙◌, subst}
+use mathlib.Core.Path.{◌≡◌, sym, ap, ap₂, ◌∙◌, subst}
 use mathlib.Core.Bool.{Bool, true, ◌||◌, cond}
 use mathlib.Core.List.{List}
-use Prim.Native.Nat.{ℕ, ◌*◌, ◌≤◌}
+use Prim.Native.Nat.{ℕ, ◌≤◌}
 use native.Mathlib.Nat.{le_of_eq}
 use native.Mathlib.Omega.{arith}
 use borrow.Author.Rules.{rules}
@@ -16,12 +16,12 @@ use Rattle.frames.specs.Refusal.{frame_refusal}
 use Rattle.fixed_digital_level_estimator.specs.declared.Levels.{Levels}
 use Rattle.fixed_digital_level_estimator.specs.Estimator.{computed}
 use Rattle.limiter.specs.declared.Limiter.{Limiter}
-use Rattle.limiter.specs.Limiter.{passes, processed, after, levels_of}
+use Rattle.limiter.specs.Limiter.{passes, processed}
 use Rattle.lists.specs.Each.{Each}
 use Rattle.limiter.specs.Scale.{FullScale, Finite, Ready}
 use Rattle.limiter.specs.Laws.States.{processed_full_scale}
 use Rattle.limiter.specs.Laws.Taken.{factors_finite, samples_finite}
-use Rattle.limiter.specs.Laws.Taking.{Fine, fine, reply_is, factors_are, joined}
+use Rattle.limiter.specs.Laws.Taking.{fine, reply_is, factors_are, joined}
 use Rattle.limiter.proofs.Limiter.process.Goals as goal
 
 -- the reply is the definition's

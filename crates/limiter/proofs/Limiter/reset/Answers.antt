@@ -1,6 +1,5 @@
 -- `limiter::Limiter::reset` meets its contract. Assumes nothing.
 use Rattle.limiter.specs.Limiter.{cleared}
-use borrow.Author.Rules.{rules}
 use Rattle.limiter.proofs.Limiter.reset.Goals as goal
 
 pub returns-then-ok : goal.returns-then-ok

@@ -1,6 +1,5 @@
 -- `limiter::Limiter::set_samples_per_channel` meets its contract. Assumes nothing.
 use Rattle.limiter.specs.Limiter.{changed}
-use borrow.Author.Rules.{rules}
 use Rattle.limiter.proofs.Limiter.set_samples_per_channel.Goals as goal
 
 pub returns-then-shape-ok : goal.returns-then-shape-ok

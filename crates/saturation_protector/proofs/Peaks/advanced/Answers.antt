@@ -13,7 +13,6 @@ use Rattle.saturation_protector.specs.Peaks.{lowest, longest, frame_time, oldest
 use Rattle.saturation_protector.specs.declared.Peaks.{Peaks}
 use Rattle.saturation_protector.specs.Laws.Tests.{passed, time_most, level_finite, larger_level}
 use Rattle.saturation_protector.specs.Laws.Rings.{pushed_when_passes}
-use borrow.Author.Rules.{rules}
 use Rattle.saturation_protector.proofs.Peaks.advanced.Goals as goal
 
 pub overflow_add-later : goal.overflow_add-later

@@ -5,7 +5,6 @@ use Rattle.saturation_protector_buffer.specs.Calls.{made}
 use Rattle.saturation_protector_buffer.specs.declared.Next.{Next}
 use Rattle.saturation_protector.specs.Peaks.{none}
 use Rattle.saturation_protector.specs.declared.Peaks.{Peaks}
-use borrow.Author.Rules.{rules}
 use Rattle.saturation_protector.proofs.Peaks.none.Goals as goal
 
 -- the state, with the ring that was made

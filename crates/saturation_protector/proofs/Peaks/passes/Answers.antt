@@ -2,7 +2,6 @@
 use mathlib.Core.Path.{sym, ◌∙◌}
 use Rattle.saturation_protector_buffer.specs.Laws.Passing.{fitting}
 use Rattle.saturation_protector.specs.Laws.Levels.{fitting_passes, unfit_fails}
-use borrow.Author.Rules.{rules}
 use Rattle.saturation_protector.proofs.Peaks.passes.Goals as goal
 
 pub are_levels-requires : goal.are_levels-requires

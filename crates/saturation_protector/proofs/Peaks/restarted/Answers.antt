@@ -4,7 +4,6 @@ use Rattle.saturation_protector_buffer.specs.Ring.{reset}
 use Rattle.saturation_protector_buffer.specs.declared.Next.{Next}
 use Rattle.saturation_protector.specs.Peaks.{restarted}
 use Rattle.saturation_protector.specs.Laws.Rings.{forgotten_ring}
-use borrow.Author.Rules.{rules}
 use Rattle.saturation_protector.proofs.Peaks.restarted.Goals as goal
 
 pub returns : goal.returns

@@ -9,7 +9,6 @@ use Rattle.saturation_protector_buffer.specs.declared.Next.{Next}
 use Rattle.saturation_protector.specs.Peaks.{lowest, starting}
 use Rattle.saturation_protector.specs.declared.Peaks.{Peaks}
 use Rattle.saturation_protector.specs.Laws.Rings.{made_ring}
-use borrow.Author.Rules.{rules}
 use Rattle.saturation_protector.proofs.Peaks.starting.Goals as goal
 
 -- the state, with the ring that was made

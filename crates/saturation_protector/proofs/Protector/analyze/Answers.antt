@@ -11,7 +11,6 @@ use Rattle.saturation_protector.specs.Calls.{stepped}
 use Rattle.saturation_protector.specs.Protector.{passes, analyzed}
 use Rattle.saturation_protector.specs.declared.Protector.{Protector}
 use Rattle.saturation_protector.specs.declared.Next.{Next}
-use borrow.Author.Rules.{rules}
 use Rattle.saturation_protector.proofs.Protector.analyze.Goals as goal
 
 pub analyzed-protector-requires : goal.analyzed-protector-requires

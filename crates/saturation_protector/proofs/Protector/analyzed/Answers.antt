@@ -4,7 +4,6 @@ use mathlib.Core.Path.{sym, ◌∙◌}
 use Rattle.runs.specs.Runs.{turned}
 use Rattle.saturation_protector.specs.Laws.Frames.{preliminary_of, turned_to, analyzed_as}
 use Rattle.saturation_protector.specs.Laws.Tests.{passed_whole}
-use borrow.Author.Rules.{rules}
 use Rattle.saturation_protector.proofs.Protector.analyzed.Goals as goal
 
 pub advanced-preliminary-requires : goal.advanced-preliminary-requires

@@ -1,5 +1,4 @@
 -- `saturation_protector::Protector::fresh` meets its contract: the two are the same protector. Assumes nothing.
-use borrow.Author.Rules.{rules}
 use Rattle.saturation_protector.specs.Protector.{fresh}
 use Rattle.saturation_protector.proofs.Protector.fresh.Goals as goal
 

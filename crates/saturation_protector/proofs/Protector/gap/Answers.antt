@@ -1,5 +1,4 @@
 -- `saturation_protector::Protector::gap` meets its contract. Assumes nothing.
-use borrow.Author.Rules.{rules}
 use Rattle.saturation_protector.specs.Calls.{gap}
 use Rattle.saturation_protector.proofs.Protector.gap.Goals as goal
 

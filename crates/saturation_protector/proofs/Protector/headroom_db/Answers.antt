@@ -1,6 +1,5 @@
 -- `saturation_protector::Protector::headroom_db` meets its contract. Assumes nothing.
 use Rattle.saturation_protector.specs.Calls.{told}
-use borrow.Author.Rules.{rules}
 use Rattle.saturation_protector.proofs.Protector.headroom_db.Goals as goal
 
 pub returns : goal.returns

@@ -1,5 +1,4 @@
 -- `saturation_protector::Protector::interrupted` meets its contract: what `runs` tells of a frame that is not speech is how a run is closed. Assumes nothing.
-use borrow.Author.Rules.{rules}
 use Rattle.runs.specs.Runs.{closed, turned}
 use Rattle.saturation_protector.specs.Protector.{interrupted}
 use Rattle.saturation_protector.proofs.Protector.interrupted.Goals as goal

@@ -3,7 +3,6 @@ use mathlib.Core.List.{[], ◌∷◌}
 use mathlib.Core.Path.{sym, ◌∙◌}
 use Rattle.lists.specs.Tests.{each_of}
 use Rattle.saturation_protector.specs.Calls.{made}
-use borrow.Author.Rules.{rules}
 use Rattle.saturation_protector.proofs.Protector.new.Goals as goal
 
 pub fresh-protector-requires : goal.fresh-protector-requires

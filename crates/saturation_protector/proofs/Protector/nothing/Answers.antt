@@ -1,5 +1,4 @@
 -- `saturation_protector::Protector::nothing` meets its contract: the two are the same protector. Assumes nothing.
-use borrow.Author.Rules.{rules}
 use Rattle.saturation_protector.specs.Protector.{nothing}
 use Rattle.saturation_protector.proofs.Protector.nothing.Goals as goal
 

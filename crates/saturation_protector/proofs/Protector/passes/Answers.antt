@@ -1,6 +1,5 @@
 -- `saturation_protector::Protector::passes` meets its contract: seven tests. Assumes nothing.
 use Rattle.saturation_protector.specs.Protector.{passes}
-use borrow.Author.Rules.{rules}
 use Rattle.saturation_protector.proofs.Protector.passes.Goals as goal
 
 pub returns : goal.returns

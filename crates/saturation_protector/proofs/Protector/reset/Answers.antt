@@ -3,7 +3,6 @@ use mathlib.Core.Path.{sym, ◌∙◌}
 use Rattle.saturation_protector.specs.Calls.{reset}
 use Rattle.saturation_protector.specs.Protector.{again}
 use Rattle.saturation_protector.specs.Laws.Tests.{passed, passed_whole}
-use borrow.Author.Rules.{rules}
 use Rattle.saturation_protector.proofs.Protector.reset.Goals as goal
 
 pub restarted-preliminary-requires : goal.restarted-preliminary-requires

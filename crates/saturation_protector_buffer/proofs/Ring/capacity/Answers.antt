@@ -1,5 +1,4 @@
 -- `saturation_protector_buffer::Ring::capacity` meets its contract. Assumes nothing.
-use borrow.Author.Rules.{rules}
 use Rattle.saturation_protector_buffer.specs.Calls.{held}
 use Rattle.saturation_protector_buffer.proofs.Ring.capacity.Goals as goal
 

@@ -1,7 +1,6 @@
 -- `saturation_protector_buffer::Ring::equals` meets its contract. Assumes nothing.
 use mathlib.Core.Path.{sym, ◌∙◌}
 use mathlib.Core.List.{[], ◌∷◌}
-use borrow.Author.Rules.{rules}
 use Rattle.lists.specs.Tests.{each_of}
 use Rattle.saturation_protector_buffer.specs.Calls.{compared}
 use Rattle.saturation_protector_buffer.specs.Laws.Passing.{within}

@@ -1,5 +1,4 @@
 -- `saturation_protector_buffer::Ring::fits` meets its contract. Assumes nothing.
-use borrow.Author.Rules.{rules}
 use Rattle.saturation_protector_buffer.specs.Ring.{fits}
 use Rattle.saturation_protector_buffer.proofs.Ring.fits.Goals as goal
 

@@ -1,6 +1,5 @@
 -- `saturation_protector_buffer::Ring::front` meets its contract. Assumes nothing.
 use mathlib.Core.Path.{sym, ◌∙◌}
-use borrow.Author.Rules.{rules}
 use Rattle.saturation_protector_buffer.specs.Calls.{told, fronted}
 use Rattle.saturation_protector_buffer.specs.Laws.Passing.{within}
 use Rattle.saturation_protector_buffer.proofs.Ring.front.Goals as goal

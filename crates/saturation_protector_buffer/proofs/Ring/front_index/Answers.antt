@@ -1,5 +1,4 @@
 -- `saturation_protector_buffer::Ring::front_index` meets its contract. Assumes nothing.
-use borrow.Author.Rules.{rules}
 use Rattle.saturation_protector_buffer.specs.Rings.{start}
 use Rattle.saturation_protector_buffer.proofs.Ring.front_index.Goals as goal
 

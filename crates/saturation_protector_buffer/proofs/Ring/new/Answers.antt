@@ -1,5 +1,4 @@
 -- `saturation_protector_buffer::Ring::new` meets its contract. Assumes nothing.
-use borrow.Author.Rules.{rules}
 use Rattle.saturation_protector_buffer.specs.Ring.{empty}
 use Rattle.saturation_protector_buffer.specs.Calls.{made}
 use Rattle.saturation_protector_buffer.proofs.Ring.new.Goals as goal

@@ -1,6 +1,5 @@
 -- `saturation_protector_buffer::Ring::passes` meets its contract: the slots of a ring whose numbers do not fit are not looked at. Assumes nothing.
 use mathlib.Core.Path.{sym, ◌∙◌}
-use borrow.Author.Rules.{rules}
 use Rattle.saturation_protector_buffer.specs.Ring.{passes}
 use Rattle.saturation_protector_buffer.specs.Laws.Passing.{fitting}
 use Rattle.saturation_protector_buffer.proofs.Ring.passes.Goals as goal

@@ -1,7 +1,6 @@
 -- `saturation_protector_buffer::Ring::reset` meets its contract: each field is chosen by itself. Assumes nothing.
 use mathlib.Core.Bool.{Bool, true, false, cond}
 use mathlib.Core.Path.{◌≡◌, refl}
-use borrow.Author.Rules.{rules}
 use Rattle.saturation_protector_buffer.specs.Ring.{passes, reset}
 use Rattle.saturation_protector_buffer.specs.Calls.{forgotten}
 use Rattle.saturation_protector_buffer.specs.declared.Ring.{Ring}

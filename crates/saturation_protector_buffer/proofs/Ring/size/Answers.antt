@@ -1,5 +1,4 @@
 -- `saturation_protector_buffer::Ring::size` meets its contract. Assumes nothing.
-use borrow.Author.Rules.{rules}
 use Rattle.saturation_protector_buffer.specs.Calls.{sized}
 use Rattle.saturation_protector_buffer.proofs.Ring.size.Goals as goal
 

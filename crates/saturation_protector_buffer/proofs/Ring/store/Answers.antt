@@ -1,5 +1,4 @@
 -- `saturation_protector_buffer::Ring::store` meets its contract. Assumes nothing.
-use borrow.Author.Rules.{rules}
 use Rattle.saturation_protector_buffer.specs.Ring.{push}
 use Rattle.saturation_protector_buffer.proofs.Ring.store.Goals as goal
 

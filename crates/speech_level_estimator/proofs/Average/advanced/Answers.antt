@@ -1,5 +1,4 @@
 -- `speech_level_estimator::Average::advanced` meets its contract: field by field. Assumes nothing.
-use Rattle.std.proofs.Common.{rules}
 use Rattle.speech_level_estimator.specs.Average.{advanced}
 use Rattle.speech_level_estimator.proofs.Average.advanced.Goals as goal
 

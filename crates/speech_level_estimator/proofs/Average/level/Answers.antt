@@ -1,5 +1,4 @@
 -- `speech_level_estimator::Average::level` meets its contract: one clamp. Assumes nothing.
-use Rattle.std.proofs.Common.{rules}
 use Rattle.speech_level_estimator.specs.Average.{level}
 use Rattle.speech_level_estimator.proofs.Average.level.Goals as goal
 

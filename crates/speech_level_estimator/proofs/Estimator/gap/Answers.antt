@@ -1,5 +1,4 @@
 -- `speech_level_estimator::Estimator::gap` meets its contract. Assumes nothing.
-use Rattle.std.proofs.Common.{rules}
 use Rattle.speech_level_estimator.specs.Calls.{gap}
 use Rattle.speech_level_estimator.proofs.Estimator.gap.Goals as goal
 

@@ -1,5 +1,4 @@
 -- `speech_level_estimator::Estimator::interrupted` meets its contract: what `runs` tells of a frame that is not speech is how a run is closed. Assumes nothing.
-use Rattle.std.proofs.Common.{rules}
 use Rattle.runs.specs.Runs.{closed, turned}
 use Rattle.speech_level_estimator.specs.Estimator.{interrupted}
 use Rattle.speech_level_estimator.proofs.Estimator.interrupted.Goals as goal

@@ -1,5 +1,4 @@
 -- `speech_level_estimator::Estimator::is_confident` meets its contract. Assumes nothing.
-use Rattle.std.proofs.Common.{rules}
 use Rattle.speech_level_estimator.specs.Calls.{confidence_told}
 use Rattle.speech_level_estimator.proofs.Estimator.is_confident.Goals as goal
 

@@ -1,5 +1,4 @@
 -- `speech_level_estimator::Estimator::level_dbfs` meets its contract. Assumes nothing.
-use Rattle.std.proofs.Common.{rules}
 use Rattle.speech_level_estimator.specs.Calls.{level_told}
 use Rattle.speech_level_estimator.proofs.Estimator.level_dbfs.Goals as goal
 

@@ -1,5 +1,4 @@
 -- `speech_level_estimator::Estimator::new` meets its contract. Assumes nothing.
-use Rattle.std.proofs.Common.{rules}
 use Rattle.speech_level_estimator.specs.Calls.{made}
 use Rattle.speech_level_estimator.specs.Estimator.{nothing}
 use Rattle.speech_level_estimator.proofs.Estimator.new.Goals as goal

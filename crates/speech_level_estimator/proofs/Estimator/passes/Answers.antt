@@ -1,5 +1,4 @@
 -- `speech_level_estimator::Estimator::passes` meets its contract: test by test. Assumes nothing.
-use Rattle.std.proofs.Common.{rules}
 use Rattle.speech_level_estimator.specs.Estimator.{passes}
 use Rattle.speech_level_estimator.proofs.Estimator.passes.Goals as goal
 

@@ -1,5 +1,4 @@
 -- `speech_level_estimator::Estimator::reset` meets its contract. Assumes nothing.
-use Rattle.std.proofs.Common.{rules}
 use Rattle.speech_level_estimator.specs.Calls.{restarted}
 use Rattle.speech_level_estimator.proofs.Estimator.reset.Goals as goal
 

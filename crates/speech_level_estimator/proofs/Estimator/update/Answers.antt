@@ -1,5 +1,4 @@
 -- `speech_level_estimator::Estimator::update` meets its contract. Assumes nothing.
-use Rattle.std.proofs.Common.{rules}
 use Rattle.speech_level_estimator.specs.Calls.{stepped}
 use Rattle.speech_level_estimator.proofs.Estimator.update.Goals as goal
 

@@ -1,5 +1,5 @@
 -- `speech_level_estimator::Estimator::updated` meets its contract: the parts that the code works out are those of the run (`turned_framed`). Assumes nothing.
-use Rattle.std.proofs.Common.{◌≡◌, Bool, cond, refl, rules}
+use Rattle.std.proofs.Common.{◌≡◌, Bool, cond, refl}
 use lib.Ieee.{Float}
 use Rattle.runs.specs.Laws.Counts.{turned_framed}
 use Rattle.runs.specs.Runs.{speech, turned}

@@ -1,6 +1,5 @@
 -- `units::figures::is_envelope` meets its contract: `is_closed` at both ends. Assumes nothing.
 use lib.Ieee.{neg, of_bits}
-use borrow.Author.Rules.{rules}
 use Rattle.units.proofs.figures.is_envelope.Goals as goal
 
 pub returns : goal.returns

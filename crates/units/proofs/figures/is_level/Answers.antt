@@ -1,6 +1,5 @@
 -- `units::figures::is_level` meets its contract: `is_closed` at both ends. Assumes nothing.
 use lib.Ieee.{neg, of_bits}
-use borrow.Author.Rules.{rules}
 use Rattle.units.proofs.figures.is_level.Goals as goal
 
 pub returns : goal.returns

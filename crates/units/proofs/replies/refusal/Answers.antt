@@ -2,7 +2,6 @@
 use mathlib.Core.Bool.{Bool, cond}
 use mathlib.Core.Path.{◌≡◌}
 use Prim.Native.Nat.{ℕ}
-use borrow.Author.Rules.{rules}
 use Rattle.units.specs.Replies.{done, bad_shape, bad_figure, bad_sample, bad_setting, refusal}
 use Rattle.units.proofs.replies.refusal.Goals as goal
 

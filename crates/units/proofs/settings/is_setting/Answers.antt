@@ -2,7 +2,6 @@
 use mathlib.Core.Bool.{Bool, ◌&&◌, not}
 use mathlib.Core.Path.{◌≡◌}
 use lib.Ieee.{Float}
-use borrow.Author.Rules.{rules}
 use Rattle.floats.specs.Kinds.{is_negative_zero}
 use Rattle.units.specs.Ranges.{closed}
 use Rattle.units.specs.Settings.{setting}

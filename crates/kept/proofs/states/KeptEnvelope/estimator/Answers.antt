@@ -1,7 +1,6 @@
 -- `kept::states::KeptEnvelope::estimator` meets its contract: field by field. Assumes nothing.
 use mathlib.Core.Path.{refl}
 use Rattle.kept.specs.States.{envelope_of}
-use borrow.Author.Rules.{rules}
 use Rattle.kept.proofs.states.KeptEnvelope.estimator.Goals as goal
 
 pub returns : goal.returns

@@ -1,6 +1,5 @@
 -- `kept::states::KeptEnvelope::of` meets its contract: field by field. Assumes nothing.
 use Rattle.kept.specs.States.{kept_envelope}
-use borrow.Author.Rules.{rules}
 use Rattle.kept.proofs.states.KeptEnvelope.of.Goals as goal
 
 pub returns : goal.returns

@@ -1,6 +1,5 @@
 -- `kept::states::KeptLimiter::is_sound` meets its contract. Assumes nothing.
 use Rattle.kept.specs.States.{sound_limiter}
-use borrow.Author.Rules.{rules}
 use Rattle.kept.proofs.states.KeptLimiter.is_sound.Goals as goal
 
 pub returns : goal.returns

@@ -3,7 +3,6 @@ use mathlib.Core.Bool.{Bool, ◌&&◌}
 use mathlib.Core.Path.{◌≡◌}
 use Rattle.units.specs.Figures.{probability, rms, level, envelope, accepted}
 use Rattle.units.specs.declared.figures.Figures.{Figures}
-use borrow.Author.Rules.{rules}
 use Rattle.units.proofs.figures.Figures.accepted.Goals as goal
 
 -- the definition, with what the tests gave

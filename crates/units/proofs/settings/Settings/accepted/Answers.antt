@@ -2,7 +2,6 @@
 use mathlib.Core.Bool.{Bool, ◌&&◌, and_assoc}
 use mathlib.Core.Path.{◌≡◌, refl}
 use lib.Ieee.{Float, neg, of_bits, binary32, lt, le}
-use borrow.Author.Rules.{rules}
 use Rattle.units.specs.Settings.{setting, accepted}
 use Rattle.units.specs.declared.settings.Settings.{Settings}
 use Rattle.units.proofs.settings.Settings.accepted.Goals as goal

@@ -23,7 +23,7 @@ use Rattle.saturation_protector.specs.declared.Protector.{Protector}
 use Rattle.saturation_protector.specs.Laws.Pushes.{forty_wait, forty_first_pushes}
 use Rattle.saturation_protector.specs.Laws.Again.{made_passes, reset_passes}
 use Rattle.saturation_protector.specs.Laws.Tests.{passed, passed_whole}
-use Rattle.saturation_protector.specs.Laws.Joined.{heard_preliminary}
+use Rattle.saturation_protector.proofs.Joined.{heard_preliminary}
 
 -- a protector whose preliminary state starts: no items, the lowest level as the largest peak, and no time passed
 pub record Starts (s : Protector) : Type 0 where

@@ -1,14 +1,14 @@
 -- Two runs that differ only in a short one, each with what it published last: they have published the same all the while, and are the same once the
 -- short run is closed. Laws; `Near` is what is kept meanwhile.
 -- Assumes nothing.
-use Rattle.std.specs.Prelude.{◌≡◌, Bool, cond, ℕ, ◌+◌, ◌<◌}
+use Rattle.std.specs.Prelude.{◌≡◌, Bool, ℕ, ◌+◌, ◌<◌}
 use Rattle.std.proofs.Math.Path.{refl, sym}
-use Rattle.std.proofs.Common.{ap, ◌∙◌}
+use Rattle.std.proofs.Common.{◌∙◌}
 use Rattle.std.proofs.Math.Bool.{true, false}
 use Rattle.std.proofs.lemmas.Bool.{false≢true}
-use Rattle.runs.specs.Runs.{Run, closed, framed, published}
+use Rattle.runs.specs.Runs.{framed, published}
 use Rattle.runs.specs.Histories.{Frame, Settled, Shown, showing}
-use Rattle.runs.specs.Laws.Apart.{Apart, apart_itself, apart_closed, apart_stays, nothing_published_lem}
+use Rattle.runs.proofs.Apart.{Apart, apart_itself, apart_closed, apart_stays, nothing_published_lem}
 
 module _ {S B : Type 0} (g : S → B) (t : ℕ) where
   -- the runs are apart, and the same was published last

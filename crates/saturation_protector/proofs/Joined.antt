@@ -8,7 +8,7 @@ use Rattle.units.specs.Figures.{probability, level}
 use Rattle.runs.specs.Runs.{speech, framed, Run}
 use Rattle.runs.specs.Histories.{after, advanced_by, AllSpeech}
 use Rattle.runs.specs.Laws.Counts.{held, held_below, held_at}
-use Rattle.runs.specs.Laws.Short.{after_speech}
+use Rattle.runs.proofs.Short.{after_speech}
 use Rattle.saturation_protector.specs.Peaks as Peaks
 use Rattle.saturation_protector.specs.Protector.{run, passes, analyzed}
 use Rattle.saturation_protector.specs.Calls.{figures, stepped}
@@ -19,15 +19,15 @@ use Rattle.saturation_protector.specs.Laws.Tests.{passed_whole}
 use Rattle.saturation_protector.specs.Laws.Again.{analyzed_passes, stepped_analyzed}
 
 -- The two states and the count after a frame are those of `runs`.
-pub analyzed_run : (s : Protector) (p peak speechLevel : Float)
-    → run (analyzed s p peak speechLevel) ≡ framed (speech p) (Peaks.advanced peak speechLevel) s.threshold (run s)
+pub analyzed_run : (s : Protector) (p peak speech_level : Float)
+    → run (analyzed s p peak speech_level) ≡ framed (speech p) (Peaks.advanced peak speech_level) s.threshold (run s)
 unfolding analyzed
-analyzed_run s p peak speechLevel = refl
+analyzed_run s p peak speech_level = refl
 
 -- And so after a frame that is not refused.
-pub stepped_run : (s : Protector) (p peak speechLevel : Float) → passes s ≡ true → figures p peak speechLevel ≡ true
-    → run (stepped s p peak speechLevel).protector ≡ framed (speech p) (Peaks.advanced peak speechLevel) s.threshold (run s)
-stepped_run s p peak speechLevel h k = ap run (stepped_analyzed s p peak speechLevel h k) ∙ analyzed_run s p peak speechLevel
+pub stepped_run : (s : Protector) (p peak speech_level : Float) → passes s ≡ true → figures p peak speech_level ≡ true
+    → run (stepped s p peak speech_level).protector ≡ framed (speech p) (Peaks.advanced peak speech_level) s.threshold (run s)
+stepped_run s p peak speech_level h k = ap run (stepped_analyzed s p peak speech_level h k) ∙ analyzed_run s p peak speech_level
 
 -- what a protector keeps through frames
 pub record Kept (s r : Protector) : Type 0 where

@@ -33,7 +33,7 @@ use Rattle.histories.specs.Average.{figures_in, weighted, average_level}
 use Rattle.histories.specs.Longest.{longest}
 use Rattle.histories.specs.Laws.Ground.{Good, new_good}
 use Rattle.histories.specs.Laws.Calls.{next_refused, next_ready, after_ready, out_full_scale}
-use Rattle.histories.specs.Laws.Agree.{no_difference}
+use Rattle.histories.proofs.Agree.{no_difference}
 use Rattle.histories.specs.Laws.Ends.{same_at_end}
 use Rattle.histories.specs.Laws.Weighted.{level_after}
 use Rattle.histories.specs.Laws.Start.{level_starting, at_most_minus_twenty}

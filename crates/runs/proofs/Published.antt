@@ -1,7 +1,7 @@
 -- What is published after any frames is what the frames that count make of the start: "the frames of closed runs that reached the threshold; then the
 -- current run's, once it has reached it". Over any kind of state and any threshold from 1 on. Laws; `Stands` is what is kept from frame to frame.
 -- Assumes nothing.
-use Rattle.std.specs.Prelude.{◌≡◌, Bool, ◌&&◌, ℕ, suc, ◌+◌, ◌≤◌, ◌<◌, ltb}
+use Rattle.std.specs.Prelude.{◌≡◌, Bool, ℕ, ◌+◌, ◌≤◌, ◌<◌, ltb}
 use Rattle.std.proofs.Math.Path.{refl, sym, ap, subst}
 use Rattle.std.proofs.Common.{◌∙◌, arith, length-append}
 use Rattle.std.proofs.Math.Bool.{true, false, cond}
@@ -9,10 +9,10 @@ use mathlib.Core.List.{List, [], ◌∷◌, ◌++◌}
 use Rattle.std.proofs.Math.Dec.{leb}
 use Rattle.std.proofs.Math.ListN.{length}
 use borrow.Author.Tests.{leb-true, leb-false, ltb-true, ltb-false, le-leb, lt-leb}
-use Rattle.runs.specs.Runs.{Run, longer, publishes, advanced, closed, framed, published}
+use Rattle.runs.specs.Runs.{Run, longer, advanced, closed, framed, published}
 use Rattle.runs.specs.Histories.{Frame, advanced_by, reached, counting, counted, Shown, showing, shown_after}
 use Rattle.runs.specs.Laws.Counts.{held, held_longer, held_publishes, held_below, held_at}
-use Rattle.runs.specs.Laws.Short.{kept, thrown, idle, neither}
+use Rattle.runs.proofs.Short.{kept, thrown, idle, neither}
 
 -- A state that frames advance one after the other.
 pub advanced_append : {S : Type 0} (s : S) (fs gs : List (Frame S)) → advanced_by s (fs ++ gs) ≡ advanced_by (advanced_by s fs) gs

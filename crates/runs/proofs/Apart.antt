@@ -1,15 +1,15 @@
 -- Two runs that differ only in a run shorter than the threshold: they publish nothing while it is open, and are the same once it is closed. Laws;
 -- `Apart` is what is kept meanwhile.
 -- Assumes nothing.
-use Rattle.std.specs.Prelude.{◌≡◌, Bool, false, ◌&&◌, cond, ℕ, ◌+◌, ◌≤◌, ◌<◌, leb, ltb}
+use Rattle.std.specs.Prelude.{◌≡◌, Bool, false, ℕ, ◌+◌, ◌<◌, ltb}
 use Rattle.std.proofs.Math.Path.{refl}
 use Rattle.std.proofs.Common.{sym, ap, ◌∙◌, arith, ltb-true, ltb-false}
 use Rattle.std.proofs.Math.Bool.{true}
 use Rattle.std.proofs.lemmas.Bool.{lt-leb}
-use Rattle.runs.specs.Runs.{publishes, Run, longer, advanced, closed, framed, published}
+use Rattle.runs.specs.Runs.{Run, advanced, closed, framed, published}
 use Rattle.runs.specs.Histories.{Settled}
 use Rattle.runs.specs.Laws.Counts.{longer_below}
-use Rattle.runs.specs.Laws.Short.{thrown, idle, framed_settled}
+use Rattle.runs.proofs.Short.{thrown, idle, framed_settled}
 
 module _ {S : Type 0} (t : ℕ) where
   -- both have the same reliable state, and no run that has reached the threshold

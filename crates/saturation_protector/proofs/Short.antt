@@ -10,7 +10,7 @@ use Rattle.units.specs.Settings.{threshold}
 use Rattle.runs.specs.Runs.{speech, Run, advanced, closed, framed, published}
 use Rattle.runs.specs.Histories.{after, advanced_by, Settled}
 use Rattle.runs.specs.Laws.Counts.{longer_below}
-use Rattle.runs.specs.Laws.Short.{short_run, long_run, framed_settled}
+use Rattle.runs.proofs.Short.{short_run, long_run, framed_settled}
 use Rattle.saturation_protector_buffer.specs.Ring.{is_capacity}
 use Rattle.saturation_protector.specs.Peaks as Peaks
 use Rattle.saturation_protector.specs.Protector.{run, passes, nothing, fresh, again, analyzed}
@@ -19,7 +19,7 @@ use Rattle.saturation_protector.specs.History.{Figures, InRange, Speech, Other, 
 use Rattle.saturation_protector.specs.declared.Peaks.{Peaks as State}
 use Rattle.saturation_protector.specs.declared.Protector.{Protector}
 use Rattle.saturation_protector.specs.Laws.Again.{stepped_analyzed}
-use Rattle.saturation_protector.specs.Laws.Joined.{analyzed_run, one_kept, heard_next, heard_append, heard_kept, heard_run, all_speech, frames_length}
+use Rattle.saturation_protector.proofs.Joined.{analyzed_run, one_kept, heard_next, heard_append, heard_kept, heard_run, all_speech, frames_length}
 
 -- ---- what is published
 -- A speech frame before the threshold publishes nothing.

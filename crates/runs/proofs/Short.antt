@@ -1,7 +1,7 @@
 -- What a closed run leaves behind: a run shorter than the threshold nothing, and a longer one its preliminary state, over any kind of state
 -- and any threshold. Laws.
 -- Assumes nothing.
-use Rattle.std.specs.Prelude.{◌≡◌, Bool, ◌&&◌, cond, ℕ, suc, ◌+◌, ◌≤◌, ◌<◌, leb}
+use Rattle.std.specs.Prelude.{◌≡◌, Bool, ℕ, suc, ◌+◌, ◌≤◌, ◌<◌}
 use Rattle.std.proofs.Math.Path.{refl, sym, ap}
 use Rattle.std.proofs.Common.{◌∙◌}
 use Rattle.std.proofs.Math.Bool.{true, false}
@@ -12,9 +12,9 @@ use Rattle.std.proofs.Math.Dec.{ltb}
 use Rattle.std.proofs.Math.ListN.{length}
 use borrow.Author.Tests.{lt-ltb, le-ltb, le-leb, lt-leb, ltb-true, ltb-false}
 use Rattle.lists.specs.Each.{Each}
-use Rattle.runs.specs.Runs.{keeps, throws, Run, advanced, closed, framed, longer}
+use Rattle.runs.specs.Runs.{Run, advanced, closed, framed, longer}
 use Rattle.runs.specs.Histories.{Frame, after, advanced_by, AllSpeech, Settled}
-use Rattle.runs.specs.Laws.Counts.{longer_below, longer_at, longer_most, held, held_longer, held_below, held_at}
+use Rattle.runs.specs.Laws.Counts.{longer_below, longer_at, held, held_longer, held_below, held_at}
 
 module _ {S : Type 0} (t : ℕ) where
   -- A run after speech frames: the preliminary state has advanced by each, the reliable one stays, and the count is held.

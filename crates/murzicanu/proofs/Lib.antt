@@ -1,3 +1,0 @@
--- What the walks of the exported functions share.
-mod Lent
-mod Values
