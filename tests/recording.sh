@@ -645,16 +645,16 @@ run "$room/480.flat" "$out" <"$good" 3>&- 2>"$room/err"
 same "recording: nobody listens at the end: nothing is told" "" "$(cat "$room/err")"
 same_file "recording: nobody listens at the end: the output" "$good" "$out"
 
-# A close that fails, as it may where a disk is far away: the kernel is told to refuse it, where it can be. The descriptors are
-# known where no emulator takes some, and only the program itself may be filtered, so it is started here.
-closes() { # NAME TOLD DESCRIPTOR DUE WRITTEN WORDS..: what is due is written in spite of it
-    local name=$1 told=$2 descriptor=$3 due=$4 written=$5
-    shift 5
-    python - "$descriptor" "$good" "$@" <<'CLOSES' >"$room/got" 2>"$room/err" 3>"$room/end"
+# A disk that takes what is written, and fails once all is written, as it may where it is far away: the kernel is told to refuse the
+# call by which the program asks whether all is kept, where it can be. Only the program itself may be filtered, so it is started here.
+settles() { # NAME TOLD DUE WRITTEN WORDS..: what is due is written in spite of it
+    local name=$1 told=$2 due=$3 written=$4
+    shift 4
+    python - "$good" "$@" <<'SETTLES' >"$room/got" 2>"$room/err" 3>"$room/end"
 import ctypes, os, platform, struct, sys
-descriptor, source, words = int(sys.argv[1]), sys.argv[2], sys.argv[3:]
-# A filter of system calls: close of this descriptor fails with EIO, and all else goes through.
-code = [(0x20, 0, 0, 0), (0x15, 0, 3, 3), (0x20, 0, 0, 16), (0x15, 0, 1, descriptor), (0x06, 0, 0, 0x00050005), (0x06, 0, 0, 0x7FFF0000)]
+source, words = sys.argv[1], sys.argv[2:]
+# A filter of system calls: fdatasync fails with EIO, and all else goes through.
+code = [(0x20, 0, 0, 0), (0x15, 0, 1, 75), (0x06, 0, 0, 0x00050005), (0x06, 0, 0, 0x7FFF0000)]
 filter = ctypes.create_string_buffer(b"".join(struct.pack("=HBBI", *line) for line in code))
 program = ctypes.create_string_buffer(struct.pack("@HP", len(code), ctypes.addressof(filter)))
 libc = ctypes.CDLL(None, use_errno=True)
@@ -663,7 +663,7 @@ if platform.machine() != "x86_64" or libc.prctl(38, 1, 0, 0, 0) or libc.prctl(22
     sys.exit("not tried")
 start = "crates/recording/out/recording"
 os.execv(start, [start] + words)
-CLOSES
+SETTLES
     if [ "$(cat "$room/err")" = "not tried" ]; then
         echo "ok recording: $name: not tried, since this system does not filter its system calls"
     else
@@ -671,8 +671,8 @@ CLOSES
         same_file "recording: $name: all was written" "$due" "$written"
     fi
 }
-closes "a close of standard output that fails" "recording: standard output: Input/output error" 1 "$good" "$room/got" "$room/480.flat"
-closes "a close of a named output that fails" "recording: the output: Input/output error" 5 "$good" "$out" "$room/480.flat" "$out"
+settles "a disk of standard output that fails at the end" "recording: standard output: Input/output error" "$good" "$room/got" "$room/480.flat"
+settles "a disk of a named output that fails at the end" "recording: the output: Input/output error" "$good" "$out" "$room/480.flat" "$out"
 
 # A program that is killed says nothing at the end, however much it has written.
 mkfifo "$room/kill"
@@ -815,7 +815,7 @@ run <"$good" >/dev/full 2>"$room/err" 3>"$room/end"
 same "recording: a metering on a full disk" "recording: standard output: No space left on device " "$(cat "$room/err") $(cat "$room/end")"
 run <"$good" >&- 2>"$room/err" 3>"$room/end"
 same "recording: a metering without standard output" "recording: standard output: Bad file descriptor " "$(cat "$room/err") $(cat "$room/end")"
-closes "a metering with a close that fails" "recording: standard output: Input/output error" 1 "$room/due" "$room/got"
+settles "a metering with a disk that fails at the end" "recording: standard output: Input/output error" "$room/due" "$room/got"
 
 # Hours, each with a loud chunk behind the samples, which is not heard: one hour of sound that is levelled, and the largest recording
 # whose size is known, metered. The silence of that is a hole in a file, which takes no room and is read fastest where files lie in
