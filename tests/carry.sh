@@ -230,12 +230,13 @@ measured() { # STRIP WAY: carries it to $room/got, and prints the most memory th
     local program=$!
     while kill -0 "$program" 2>/dev/null; do
         most=$(sed -n 's/^VmHWM:[^0-9]*\([0-9]*\) kB/\1/p' "/proc/$program/status" 2>/dev/null | grep . || echo "$most")
-        sleep 0.05
+        sleep 0.005
     done
     wait "$program"
     echo "$most"
 }
-before=$(measured "$room/ten-thousand" up)
+# The short run may end before it is looked at a second time, so that it is made five times.
+before=$(for _ in 1 2 3 4 5; do measured "$room/ten-thousand" up; done | sort -n | tail -n 1)
 after=$(measured "$room/million" up)
 same "carry: a million records, up: their size, and what is on descriptor 3" "22000027 bytes, 0" "$(cat "$room/err"), $(cat "$room/reply")"
 same_file "carry: a million records, up: the bytes" <(printf '\0\x19\x02\0'; tail -c +4 "$room/million") "$room/got"
