@@ -2,9 +2,10 @@
 // and `carry back` one of version 2 to version 1. strip_carry says what is refused, and which bytes are written.
 //
 // It reads the strip twice: once to judge it, and then once more to write it. So standard input has to be a file; a pipe is
-// told. Before the first byte is written a line on standard error says how many there will be. A refusal is a line there
-// with the record's number, R and the reply's number, and nothing is written. Where the strip is not the same when it is read
-// for the second time, that is told too, and what was written is no strip.
+// told. The words `--file FILE` behind the way name the strip in its stead. Before the first byte is written a line on standard
+// error says how many there will be. A refusal is a line there with the record's number, R and the reply's number, and nothing
+// is written. Where the strip is not the same when it is read for the second time, that is told too, and what was written is no
+// strip.
 //
 // The last that it does is to write a number to descriptor 3, in decimal and with no line end: 0 where all was written, or that
 // of the refusal. Where a read or a write failed, or the strip changed, none is written.
@@ -16,7 +17,7 @@
 ghost use Rattle.io.specs.Counts.{IsPrefixLen};
 
 use std::fs;
-use std::fs::File;
+use std::fs::{File, OpenOptions};
 use std::io::Seek;
 use std::os::unix::fs::{FileExt, FileTypeExt};
 use strip_carry::{End, Run, Told, Way, end_of, told_of, way_of};
@@ -28,6 +29,9 @@ const BLOCK: usize = 2048;
 
 // The largest offset.
 const LAST: u64 = 0x7fff_ffff_ffff_ffff;
+
+// The word in front of the path of a strip.
+const FILE_WORD: &[u8] = b"--file";
 
 // The strip by its path. Who opens that opens standard input once more, at its start.
 const STRIP: &str = "/proc/self/fd/0";
@@ -60,6 +64,15 @@ fn offset(place: u64) -> u64 {
     if place <= LAST { place } else { LAST }
 }
 
+// What a message calls the strip.
+fn strip_name(rt: &HostRuntime) -> &'static str {
+    if is_named(rt) {
+        "carry: the strip"
+    } else {
+        "carry: standard input"
+    }
+}
+
 // Reads a block that begins at a place of the strip. A read that fails is told.
 fn read_block(rt: &HostRuntime, strip: &File, block: &mut [u8], place: u64) -> Filled
     ensures { IsPrefixLen result.n block.new }
@@ -67,7 +80,7 @@ fn read_block(rt: &HostRuntime, strip: &File, block: &mut [u8], place: u64) -> F
     match strip.read_at(block, offset(place)) {
         Ok(n) => Filled { n, well: true },
         Err(e) => {
-            outside::fail(rt, "carry: standard input", e);
+            outside::fail(rt, strip_name(rt), e);
             Filled { n: 0, well: false }
         }
     }
@@ -172,10 +185,17 @@ fn carry_from(rt: &HostRuntime, strip: &File, from: Version) {
     }
 }
 
-// The way that the first word says, where there is one word.
+// Whether the words name the strip: behind the way comes `--file`, and then the path.
+fn is_named(rt: &HostRuntime) -> bool {
+    let mut word = io::buffer();
+    let n = outside::word(rt, 2, &mut word);
+    outside::word_count(rt) == 4 && &word[..n] == FILE_WORD
+}
+
+// The way that the first word says, where there is one word, or where the others name the strip.
 fn asked(rt: &HostRuntime) -> Way {
     let mut word = io::buffer();
-    if outside::word_count(rt) == 2 {
+    if outside::word_count(rt) == 2 || is_named(rt) {
         let n = outside::word(rt, 1, &mut word);
         way_of(&word[..n])
     } else {
@@ -203,8 +223,34 @@ fn with_places(mut file: File) -> Option<File> {
     }
 }
 
-// Opens the strip, where it can be read twice.
-fn open_strip(rt: &HostRuntime) -> Option<File> {
+// Hands an opened strip on. Where there is none, or one that cannot be read twice, that is told.
+fn told_of_open(rt: &HostRuntime, strip: Option<File>, text: &str) -> Option<File> {
+    match strip {
+        Some(file) => Some(file),
+        None => {
+            outside::tell(rt, text);
+            None
+        }
+    }
+}
+
+// Opens the strip that the last word names.
+fn open_named(rt: &HostRuntime) -> Option<File> {
+    match outside::open_word(rt, 3, OpenOptions::new().read(true)) {
+        Ok(file) => told_of_open(
+            rt,
+            with_places(file),
+            "carry: the strip cannot be read twice: give a file, and no pipe\n",
+        ),
+        Err(e) => {
+            outside::fail(rt, "carry: the strip", e);
+            None
+        }
+    }
+}
+
+// Opens standard input once more, where that can be done.
+fn open_input(rt: &HostRuntime) -> Option<File> {
     if is_kept(rt) {
         match fs::open(rt, STRIP) {
             Ok(file) => with_places(file),
@@ -215,20 +261,29 @@ fn open_strip(rt: &HostRuntime) -> Option<File> {
     }
 }
 
+// Opens the strip: the one that the words name, or else standard input.
+fn open_strip(rt: &HostRuntime) -> Option<File> {
+    if is_named(rt) {
+        open_named(rt)
+    } else {
+        told_of_open(
+            rt,
+            open_input(rt),
+            "carry: standard input cannot be read twice: give a file, and no pipe\n",
+        )
+    }
+}
+
 fn main(rt: HostRuntime) {
     let way = asked(&rt);
-    match open_strip(&rt) {
-        None => outside::tell(
-            &rt,
-            "carry: standard input cannot be read twice: give a file, and no pipe\n",
-        ),
-        Some(strip) => match way {
+    if let Some(strip) = open_strip(&rt) {
+        match way {
             Way::None => outside::tell(
                 &rt,
                 "carry: it takes one word, up or back: carry up < OLD.strip > NEW.strip\n",
             ),
             Way::Up => carry_from(&rt, &strip, Version::One),
             Way::Back => carry_from(&rt, &strip, Version::Two),
-        },
+        }
     }
 }
