@@ -224,16 +224,17 @@ head -c 2226 "$example" | tail -c 2200 >"$room/hundred"
 yes "$room/hundred" | head -n 100 | xargs cat >"$room/block"
 cat "$room/head" "$room/block" >"$room/ten-thousand"
 { cat "$room/head" && for ((i = 0; i < 100; i++)); do cat "$room/block"; done; } >"$room/million"
+# The program waits while nobody takes what it writes: so the last hundred thousand bytes are taken once the memory is read.
+mkfifo "$room/measured"
 measured() { # STRIP WAY: carries it to $room/got, and prints the most memory that the program has used by then, in kB
-    local most=
-    tests/run-program carry "$2" <"$1" >"$room/got" 2>"$room/err" 3>"$room/reply" &
+    tests/run-program carry "$2" <"$1" >"$room/measured" 2>"$room/err" 3>"$room/reply" &
     local program=$!
-    while kill -0 "$program" 2>/dev/null; do
-        most=$(sed -n 's/^VmHWM:[^0-9]*\([0-9]*\) kB/\1/p' "/proc/$program/status" 2>/dev/null | grep . || echo "$most")
-        sleep 0.05
-    done
+    {
+        head -c $(($(wc -c <"$1") - 100000)) >"$room/got"
+        sed -n 's/^VmHWM:[^0-9]*\([0-9]*\) kB/\1/p' "/proc/$program/status"
+        cat >>"$room/got"
+    } <"$room/measured"
     wait "$program"
-    echo "$most"
 }
 before=$(measured "$room/ten-thousand" up)
 after=$(measured "$room/million" up)
