@@ -140,6 +140,20 @@ twice="carry: standard input cannot be read twice: give a file, and no pipe"
 run up < <(cat "$paper")
 fails "a pipe" "$twice"
 same "carry: a pipe: nothing is written" "" "$(cat "$room/got")"
+# A strip by its name: standard input is not looked at.
+run up --file "$paper" < <(cat "$paper")
+carried "a named strip, up" "$twin"
+run back --file "$twin" <&-
+carried "a named strip, back" "$paper"
+run up --file "$room/none" <"$paper"
+fails "a named strip that is missing" "carry: the strip: No such file or directory"
+run up --file . <"$paper"
+fails "a named folder" "carry: the strip: Is a directory"
+for word in "up --file" "up --fil $paper" "sideways --file $paper" "up --file $paper $paper"; do
+    # shellcheck disable=SC2086
+    run $word <"$paper"
+    fails "the words '$word'" "$usage"
+done
 run up <&-
 fails "closed input" "$twice"
 run up <.
