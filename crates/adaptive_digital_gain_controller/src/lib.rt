@@ -57,8 +57,8 @@ fn wanted(level: f32, headroom: f32, largest: f32) -> f32
     ensures { result ≡ wanted level headroom largest }
 {
     let boosted = -headroom - level;
-    let rest = floats::pick_f32(level < -headroom, boosted, 0.0);
-    floats::pick_f32(level < -(headroom + largest), largest, rest)
+    let rest = floats::pick(level < -headroom, boosted, 0.0);
+    floats::pick(level < -(headroom + largest), largest, rest)
 }
 
 // A gain that does not lift the noise above the loudest that it may be.
@@ -74,7 +74,7 @@ fn under_envelope(gain: f32, last: f32, envelope: f32, reliable: bool) -> f32
 {
     let before = envelope - last;
     let lowered = floats::smaller(floats::larger(LOUD - before, 0.0), gain);
-    floats::pick_f32(reliable | (envelope <= LOUD), gain, lowered)
+    floats::pick(reliable | (envelope <= LOUD), gain, lowered)
 }
 
 // By how many dB the gain may change in a frame of 10 ms.
@@ -102,7 +102,7 @@ fn increase(first: bool, threshold: u32, change: f32) -> f32
     ensures { result ≡ increase first threshold change }
 {
     let faster = change * std::num::nearest_u32_to_f32(threshold);
-    floats::pick_f32(first, faster, change)
+    floats::pick(first, faster, change)
 }
 
 // By how many dB the gain changes: the difference to the target, which is not above 0 while the gain may
@@ -111,7 +111,7 @@ fn changed(target: f32, gain: f32, allowed: bool, most: f32, rise: f32) -> f32
     ensures { result ≡ changed target gain allowed most rise }
 {
     let difference = target - gain;
-    let due = floats::pick_f32(allowed, difference, floats::smaller(difference, 0.0));
+    let due = floats::pick(allowed, difference, floats::smaller(difference, 0.0));
     floats::clamp(due, -most, rise)
 }
 

@@ -242,8 +242,8 @@ impl Chain {
         let reply = refusal(shape, setting, true, true);
         let ok = shape & setting;
         // Where it is refused each part is refused too, for its threshold or its samples, and is all 0.
-        let frames = floats::pick_u32(ok, threshold, 0);
-        let size = floats::pick_usize(ok, samples, 0);
+        let frames = floats::pick(ok, threshold, 0);
+        let size = floats::pick(ok, samples, 0);
         let chain = four(settings, frames, size, capacity);
         Made { reply, chain }
     }
@@ -280,9 +280,9 @@ impl Chain {
         Reading {
             reply: refusal(true, ok, true, true),
             published: Published {
-                level: Dbfs(floats::pick_f32(ok, estimator.level, 0.0)),
-                headroom: Db(floats::pick_f32(ok, protector.headroom, 0.0)),
-                gain: Db(floats::pick_f32(ok, controller.gain, 0.0)),
+                level: Dbfs(floats::pick(ok, estimator.level, 0.0)),
+                headroom: Db(floats::pick(ok, protector.headroom, 0.0)),
+                gain: Db(floats::pick(ok, controller.gain, 0.0)),
                 confident: ok & estimator.confident,
             },
         }
@@ -297,7 +297,7 @@ impl Chain {
         let estimator = limiter.estimator;
         SamplesRead {
             reply: refusal(true, ok, true, true),
-            samples: floats::pick_usize(ok, estimator.samples, 0),
+            samples: floats::pick(ok, estimator.samples, 0),
         }
     }
 

@@ -268,7 +268,7 @@ fn raise(found: [f32; 20]) -> [f32; 20]
 fn follow(last: f32, value: f32) -> f32
     ensures { result ≡ decayed last value }
 {
-    floats::pick_f32(last < value, value, value * RISE + last * DECAY)
+    floats::pick(last < value, value, value * RISE + last * DECAY)
 }
 
 // The envelope that follows the values from a level on.
@@ -294,7 +294,7 @@ impl Estimator {
     {
         let ok = frames::is_samples(samples);
         let reply = units::replies::refusal(ok, true, true, true);
-        let s = floats::pick_usize(ok, samples, 0);
+        let s = floats::pick(ok, samples, 0);
         Next {
             reply,
             estimator: Estimator {
@@ -387,7 +387,7 @@ impl Estimator {
     {
         let ok = self.passes();
         let reply = units::replies::refusal(true, ok, true, true);
-        let level = floats::pick_f32(ok, 0.0, self.level);
+        let level = floats::pick(ok, 0.0, self.level);
         Next {
             reply,
             estimator: Estimator {
@@ -405,7 +405,7 @@ impl Estimator {
         let ok = self.passes();
         Heard {
             reply: units::replies::refusal(true, ok, true, true),
-            level: LinearS16(floats::pick_f32(ok, self.level, 0.0)),
+            level: LinearS16(floats::pick(ok, self.level, 0.0)),
         }
     }
 }

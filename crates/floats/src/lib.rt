@@ -8,39 +8,25 @@ ghost use Rattle.std.specs.Float.Ieee.Scale.{finite};
 ghost use Rattle.floats.specs.Choice.{larger, smaller, clamp};
 ghost use Rattle.floats.specs.Kinds.{magnitude, is_negative_zero};
 
-// The first of two f32 where b, otherwise the second.
-pub fn pick_f32(b: bool, x: f32, y: f32) -> f32
+// The first of two values where b, otherwise the second. Both are at hand, so it takes no branch.
+pub fn pick<T: Copy>(b: bool, x: T, y: T) -> T
     ensures { result ≡ cond b x y }
 {
     if b { x } else { y }
-}
-
-// The first of two u32 where b, otherwise the second.
-pub fn pick_u32(b: bool, m: u32, n: u32) -> u32
-    ensures { result ≡ cond b m n }
-{
-    if b { m } else { n }
-}
-
-// The first of two usize where b, otherwise the second.
-pub fn pick_usize(b: bool, i: usize, j: usize) -> usize
-    ensures { result ≡ cond b i j }
-{
-    if b { i } else { j }
 }
 
 // y where x is below y, otherwise x: the first is kept where they are equal, and where one is a NaN.
 pub fn larger(x: f32, y: f32) -> f32
     ensures { result ≡ larger x y }
 {
-    pick_f32(x < y, y, x)
+    pick(x < y, y, x)
 }
 
 // y where y is below x, otherwise x: the first is kept where they are equal, and where one is a NaN.
 pub fn smaller(x: f32, y: f32) -> f32
     ensures { result ≡ smaller x y }
 {
-    pick_f32(y < x, y, x)
+    pick(y < x, y, x)
 }
 
 // x brought up to low, and then down to high. A NaN stays a NaN.

@@ -34,8 +34,8 @@ pub fn is_shape(channels: usize, samples: usize, length: usize) -> bool
 {
     // The product is taken only of numbers that are in their ranges, so that it cannot wrap.
     let small = (1 <= channels) & (channels <= 8) & is_samples(samples);
-    let c = floats::pick_usize(small, channels, 0);
-    let s = floats::pick_usize(small, samples, 0);
+    let c = floats::pick(small, channels, 0);
+    let s = floats::pick(small, samples, 0);
     small & (length == c * s)
 }
 

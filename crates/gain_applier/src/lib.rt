@@ -354,7 +354,7 @@ impl Applier {
     {
         let ok = self.passes();
         let fits = units::figures::is_gain_factor(factor);
-        let current = floats::pick_f32(ok & fits, factor, self.current);
+        let current = floats::pick(ok & fits, factor, self.current);
         let mut next = self;
         next.current = current;
         Next {
@@ -370,7 +370,7 @@ impl Applier {
         let ok = self.passes();
         Factor {
             reply: units::replies::refusal(true, ok, true, true),
-            factor: floats::pick_f32(ok, self.current, 0.0),
+            factor: floats::pick(ok, self.current, 0.0),
         }
     }
 }

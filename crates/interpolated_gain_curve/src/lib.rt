@@ -242,7 +242,7 @@ fn piece_of(level: f32) -> usize
     let mut piece: usize = 0;
     let mut i = 0;
     while i < 32 {
-        piece = floats::pick_usize(knots[i] < level, i, piece);
+        piece = floats::pick(knots[i] < level, i, piece);
         i += 1;
     }
     piece

@@ -215,7 +215,7 @@ impl Limiter {
     {
         let ok = frames::is_samples(samples);
         let reply = units::replies::refusal(ok, true, true, true);
-        let s = floats::pick_usize(ok, samples, 0);
+        let s = floats::pick(ok, samples, 0);
         Next {
             reply,
             limiter: Limiter {
@@ -225,7 +225,7 @@ impl Limiter {
                     part: s / 20,
                 },
                 curve: Curve::new(),
-                carried: floats::pick_f32(ok, 1.0, 0.0),
+                carried: floats::pick(ok, 1.0, 0.0),
             },
         }
     }
@@ -256,7 +256,7 @@ impl Limiter {
         // another part of the state fails.
         let found = estimator.compute_level(frame, channels, samples);
         let first = found.reply;
-        let reply = floats::pick_u32(ok | (first == SHAPE), first, SETTING);
+        let reply = floats::pick(ok | (first == SHAPE), first, SETTING);
         if reply == DONE {
             let levels = found.envelope;
             let next = found.estimator;
@@ -350,7 +350,7 @@ impl Limiter {
         let estimator = self.estimator;
         Heard {
             reply: units::replies::refusal(true, ok, true, true),
-            level: LinearS16(floats::pick_f32(ok, estimator.level, 0.0)),
+            level: LinearS16(floats::pick(ok, estimator.level, 0.0)),
         }
     }
 }

@@ -112,8 +112,8 @@ fn is_frame(channels: usize, samples: usize, length: usize) -> bool
 {
     // The product is taken only of numbers that are in their ranges, so that it cannot wrap.
     let sizes = is_sizes(channels, samples);
-    let c = floats::pick_usize(sizes, channels, 0);
-    let s = floats::pick_usize(sizes, samples, 0);
+    let c = floats::pick(sizes, channels, 0);
+    let s = floats::pick(sizes, samples, 0);
     sizes & (length == 2 * c * s)
 }
 

@@ -113,8 +113,8 @@ pub fn extent_of(size: u32, channels: usize) -> Extent
     let whole = whole_groups(size as usize, channels);
     Extent {
         known,
-        size: floats::pick_u32(known, whole as u32, size),
-        left: floats::pick_usize(known, whole, usize::MAX),
+        size: floats::pick(known, whole as u32, size),
+        left: floats::pick(known, whole, usize::MAX),
     }
 }
 
@@ -376,7 +376,7 @@ pub fn after_write(run: Run, written: bool) -> Run
 pub fn behind_bytes(size: u32) -> usize
     ensures { result ≡ behind_bytes size }
 {
-    floats::pick_usize(size == 0, 1, 0)
+    floats::pick(size == 0, 1, 0)
 }
 
 // What is told of samples whose chunk says this size, where so many bytes did not come, and so many come behind them, of
@@ -452,7 +452,7 @@ pub fn put_right(
     if written <= most {
         if run.well & !(written == extent.size as usize) {
             let reply = write_head(channels, samples, mask, written as u32, out);
-            floats::pick_usize(reply == DONE, length, 0)
+            floats::pick(reply == DONE, length, 0)
         } else {
             0
         }

@@ -38,7 +38,7 @@ pub fn begin(channels: usize, samples: usize, size: u32, out: &mut [u8]) -> Mete
             more: done,
             well: done,
         },
-        n: floats::pick_usize(done, FORMAT_BYTES, 0),
+        n: floats::pick(done, FORMAT_BYTES, 0),
     }
 }
 
@@ -69,11 +69,11 @@ pub fn meter_sound(
     let done = put_loudness(bytes, channels, samples, out) == DONE;
     Metered {
         meter: Meter {
-            left: floats::pick_usize(done, less(meter.left, n), meter.left),
+            left: floats::pick(done, less(meter.left, n), meter.left),
             more: done,
             well: done,
         },
-        n: floats::pick_usize(done, RECORD_BYTES, 0),
+        n: floats::pick(done, RECORD_BYTES, 0),
     }
 }
 

@@ -40,7 +40,7 @@ pub fn step(speech: bool, threshold: u32, count: u32) -> Turn
     let next = longer(threshold, count);
     let two = 1 < threshold;
     Turn {
-        count: floats::pick_u32(speech, next, 0),
+        count: floats::pick(speech, next, 0),
         keep: !speech & (two & (threshold <= count)),
         throw: !speech & (two & (0 < count) & (count < threshold)),
         publish: speech & (threshold <= next),

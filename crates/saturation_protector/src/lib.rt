@@ -124,7 +124,7 @@ fn oldest_or(ring: Ring, other: f32) -> f32
 fn nearer(headroom: f32, difference: f32) -> f32
     ensures { result ≡ nearer headroom difference }
 {
-    let stays = floats::pick_f32(headroom < difference, ATTACK, DECAY);
+    let stays = floats::pick(headroom < difference, ATTACK, DECAY);
     floats::clamp(headroom * stays + difference * (1.0 - stays), LEAST, MOST)
 }
 
@@ -204,8 +204,8 @@ impl Peaks {
         let later = self.elapsed + FRAME;
         let due = LONGEST < later;
         let ring = pushed_when(due, before, larger);
-        let largest = floats::pick_f32(due, LOWEST, larger);
-        let elapsed = floats::pick_u32(due, 0, later);
+        let largest = floats::pick(due, LOWEST, larger);
+        let elapsed = floats::pick(due, 0, later);
         let difference = oldest_or(ring, largest) - level;
         let headroom = nearer(self.headroom, difference);
         Peaks {
@@ -323,7 +323,7 @@ impl Protector {
         let turn = runs::step(speech, self.threshold, self.count);
         if speech {
             let preliminary = before.advanced(peak, level);
-            let headroom = floats::pick_f32(turn.publish, preliminary.headroom, self.headroom);
+            let headroom = floats::pick(turn.publish, preliminary.headroom, self.headroom);
             Protector {
                 initial: self.initial,
                 threshold: self.threshold,
@@ -419,7 +419,7 @@ impl Protector {
         let ok = self.passes();
         Headroom {
             reply: refusal(true, ok, true, true),
-            headroom: Db(floats::pick_f32(ok, self.headroom, 0.0)),
+            headroom: Db(floats::pick(ok, self.headroom, 0.0)),
         }
     }
 }

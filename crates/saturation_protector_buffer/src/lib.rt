@@ -100,7 +100,7 @@ impl Ring {
             reply: refusal(true, ok, true, true),
             ring: Ring {
                 stored: [0.0; STORAGE],
-                capacity: floats::pick_u32(ok, capacity, 0),
+                capacity: floats::pick(ok, capacity, 0),
                 place: 0,
                 size: 0,
             },
@@ -157,8 +157,8 @@ impl Ring {
         let size = self.size;
         stored[place] = v;
         let after = self.place + 1;
-        let next = floats::pick_u32(after == capacity, 0, after);
-        let more = floats::pick_u32(size < capacity, size + 1, size);
+        let next = floats::pick(after == capacity, 0, after);
+        let more = floats::pick(size < capacity, size + 1, size);
         Ring {
             stored,
             capacity,
@@ -204,7 +204,7 @@ impl Ring {
     fn front_index(self) -> usize
         ensures { result ≡ start self.capacity self.place self.size }
     {
-        floats::pick_usize(self.size == self.capacity, self.place as usize, 0)
+        floats::pick(self.size == self.capacity, self.place as usize, 0)
     }
 
     // How many peaks there are. A ring that fails its test is refused with 4.
@@ -214,7 +214,7 @@ impl Ring {
         let ok = self.passes();
         Counted {
             reply: refusal(true, ok, true, true),
-            size: floats::pick_usize(ok, self.size as usize, 0),
+            size: floats::pick(ok, self.size as usize, 0),
         }
     }
 
@@ -225,7 +225,7 @@ impl Ring {
         let ok = self.passes();
         Held {
             reply: refusal(true, ok, true, true),
-            capacity: floats::pick_u32(ok, self.capacity, 0),
+            capacity: floats::pick(ok, self.capacity, 0),
         }
     }
 
@@ -238,8 +238,8 @@ impl Ring {
         let capacity = self.capacity;
         let ok = self.passes();
         let reply = refusal(true, ok, true, true);
-        let place = floats::pick_u32(ok, 0, self.place);
-        let size = floats::pick_u32(ok, 0, self.size);
+        let place = floats::pick(ok, 0, self.place);
+        let size = floats::pick(ok, 0, self.size);
         let ring = Ring {
             stored,
             capacity,

@@ -132,7 +132,7 @@ impl Average {
     fn advanced(self, rms: f32, weight: f32) -> Average
         ensures { result ≡ advanced rms weight self }
     {
-        let leak = floats::pick_f32(self.left == 0, LEAK, 1.0);
+        let leak = floats::pick(self.left == 0, LEAK, 1.0);
         Average {
             left: less(self.left, FRAME),
             sum: self.sum * leak + rms * weight,
@@ -268,7 +268,7 @@ impl Estimator {
         let back = pick_average(turn.throw, trusted, before);
         let preliminary = pick_average(speech, more, back);
         let reliable = pick_average(turn.keep, before, trusted);
-        let level = floats::pick_f32(turn.publish, preliminary.level(), self.level);
+        let level = floats::pick(turn.publish, preliminary.level(), self.level);
         let confident = is_trusted(threshold, turn.count, preliminary.left, reliable.left);
         Estimator {
             settings,
@@ -352,7 +352,7 @@ impl Estimator {
         let ok = self.passes();
         Level {
             reply: refusal(true, ok, true, true),
-            level: Dbfs(floats::pick_f32(ok, self.level, 0.0)),
+            level: Dbfs(floats::pick(ok, self.level, 0.0)),
         }
     }
 

@@ -231,7 +231,7 @@ fn ramp(frame: &mut [f32], ask: Ask, clip: bool, factor: f32) -> Outcome {
         let number = k;
         k += 1;
         tape = sound::turn(frame, tape, ask.sound, number);
-        let aim = floats::pick_f32(number % 2 == 0, factor + factor, factor);
+        let aim = floats::pick(number % 2 == 0, factor + factor, factor);
         let set = applier.set_gain_factor(aim);
         let aimed = set.applier;
         let next = aimed.apply_gain(frame, ask.channels, ask.samples);
@@ -356,13 +356,13 @@ fn work(frame: &mut [f32], ask: Ask) -> Outcome {
     } else if part == CHAIN {
         level(frame, ask)
     } else if (part == APPLIER_ONE) | (part == APPLIER_EQUAL) {
-        apply(frame, ask, floats::pick_f32(part == APPLIER_ONE, 1.0, 0.75))
+        apply(frame, ask, floats::pick(part == APPLIER_ONE, 1.0, 0.75))
     } else if (part == APPLIER_RAMP) | (part == APPLIER_CLIP) {
         ramp(
             frame,
             ask,
             part == APPLIER_CLIP,
-            floats::pick_f32(part == APPLIER_CLIP, 1.5, 0.5),
+            floats::pick(part == APPLIER_CLIP, 1.5, 0.5),
         )
     } else {
         nothing(frame, ask)

@@ -308,9 +308,9 @@ fn head_place(version: Version, strip: &[u8]) -> u32
         let due = bytes - LENGTH_BYTES;
         let length = two_at(strip, 0) as usize;
         let named = says == number(version);
-        let whole = floats::pick_u32(bytes <= strip.len(), DONE, CUT);
-        let after_version = floats::pick_u32(length == due, whole, LENGTH);
-        floats::pick_u32(named, after_version, VERSION)
+        let whole = floats::pick(bytes <= strip.len(), DONE, CUT);
+        let after_version = floats::pick(length == due, whole, LENGTH);
+        floats::pick(named, after_version, VERSION)
     } else {
         CUT
     }
@@ -346,8 +346,8 @@ fn record_place(strip: &[u8], at: usize) -> u32
     let left = strip.len() - at;
     if 2 <= left {
         let length = two_at(strip, at);
-        let whole = floats::pick_u32(RECORD_BYTES <= left, DONE, CUT);
-        floats::pick_u32(length == RECORD_LENGTH, whole, LENGTH)
+        let whole = floats::pick(RECORD_BYTES <= left, DONE, CUT);
+        floats::pick(length == RECORD_LENGTH, whole, LENGTH)
     } else {
         CUT
     }
@@ -496,13 +496,13 @@ fn copy(src: &[u8], out: &mut [u8]) -> u32
 {
     let space = out.len();
     let room = src.len() <= space;
-    let count = floats::pick_usize(room, src.len(), 0);
+    let count = floats::pick(room, src.len(), 0);
     let mut i = 0;
     while i < count {
         out[i] = src[i];
         i += 1;
     }
-    floats::pick_u32(room, DONE, ROOM)
+    floats::pick(room, DONE, ROOM)
 }
 
 // Writes a head to the start of a lent buffer, in its version. Refused, in this order, are samples with 1, settings or

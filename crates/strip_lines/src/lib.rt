@@ -241,10 +241,10 @@ fn put_line(line: &[u8], out: &mut [u8]) -> Line
     ensures out_after { out.new ≡ (put done line.now out.old).out }
 {
     let fits = line.len() <= out.len();
-    let length = floats::pick_usize(fits, line.len(), 0);
+    let length = floats::pick(fits, line.len(), 0);
     out[..length].copy_from_slice(&line[..length]);
     Line {
-        reply: floats::pick_u32(fits, DONE, ROOM),
+        reply: floats::pick(fits, DONE, ROOM),
         length,
     }
 }

@@ -5,5 +5,6 @@
 
 pub mod figures;
 pub mod kinds;
+pub mod refusals;
 pub mod replies;
 pub mod settings;

@@ -38,8 +38,8 @@ pub const UNSAID: u32 = 9;
 pub fn refusal(shape: bool, setting: bool, figure: bool, sample: bool) -> u32
     ensures { result ≡ refusal shape setting figure sample }
 {
-    let after_figure = floats::pick_u32(sample, DONE, SAMPLE);
-    let after_setting = floats::pick_u32(figure, after_figure, FIGURE);
-    let after_shape = floats::pick_u32(setting, after_setting, SETTING);
-    floats::pick_u32(shape, after_shape, SHAPE)
+    let after_figure = floats::pick(sample, DONE, SAMPLE);
+    let after_setting = floats::pick(figure, after_figure, FIGURE);
+    let after_shape = floats::pick(setting, after_setting, SETTING);
+    floats::pick(shape, after_shape, SHAPE)
 }

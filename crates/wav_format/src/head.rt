@@ -83,10 +83,10 @@ fn format_refusal(bytes: &[u8]) -> u32
         & (channels <= 8)
         & (rate % 100 == 0)
         & frames::is_samples((rate / 100) as usize);
-    let after_group = floats::pick_u32(shape, DONE, SHAPE);
-    let after_kind = floats::pick_u32(group == 2 * channels, after_group, LENGTH);
-    let after_length = floats::pick_u32(plain & (bits == 16), after_kind, VERSION);
-    floats::pick_u32(16 <= bytes.len(), after_length, CUT)
+    let after_group = floats::pick(shape, DONE, SHAPE);
+    let after_kind = floats::pick(group == 2 * channels, after_group, LENGTH);
+    let after_length = floats::pick(plain & (bits == 16), after_kind, VERSION);
+    floats::pick(16 <= bytes.len(), after_length, CUT)
 }
 
 // The channels, the samples of 10 ms and the mask that a format chunk says, where it is not refused. Only an extended
@@ -102,9 +102,9 @@ pub fn read_format(bytes: &[u8]) -> Format
     let mask = four_at(bytes, 20);
     Format {
         reply,
-        channels: floats::pick_usize(ok, channels, 0),
-        samples: floats::pick_usize(ok, samples, 0),
-        mask: floats::pick_u32(ok & (tag == EXTENDED), mask, 0),
+        channels: floats::pick(ok, channels, 0),
+        samples: floats::pick(ok, samples, 0),
+        mask: floats::pick(ok & (tag == EXTENDED), mask, 0),
     }
 }
 
@@ -112,7 +112,7 @@ pub fn read_format(bytes: &[u8]) -> Format
 pub fn head_bytes(mask: u32) -> usize
     ensures { result ≡ head_length mask }
 {
-    floats::pick_usize(mask == 0, HEAD_BYTES, LONGEST_HEAD)
+    floats::pick(mask == 0, HEAD_BYTES, LONGEST_HEAD)
 }
 
 // How many bytes follow the first eight of a head of this length, as far as 32 bits say it.
@@ -140,8 +140,8 @@ fn put_head(channels: u32, samples: u32, mask: u32, size: u32, out: &mut [u8])
     let none = mask == 0;
     let long = head_bytes(mask);
     let rest = following_bytes(long, size);
-    let bytes = floats::pick_u32(none, 16, 40);
-    let tag = floats::pick_u32(none, PLAIN, EXTENDED);
+    let bytes = floats::pick(none, 16, 40);
+    let tag = floats::pick(none, PLAIN, EXTENDED);
     let rate = samples * 100;
     let group = 2 * channels;
     let second = rate * group;
@@ -157,7 +157,7 @@ fn put_head(channels: u32, samples: u32, mask: u32, size: u32, out: &mut [u8])
         0x719b_3800,
     ];
     let last = [DATA, size];
-    let n = floats::pick_usize(none, 0, 6);
+    let n = floats::pick(none, 0, 6);
     put_fours(&first, out, 0);
     put_fours(&more[..n], out, 36);
     put_fours(&last, out, long - 8);

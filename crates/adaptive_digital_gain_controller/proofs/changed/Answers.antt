@@ -12,4 +12,4 @@ unfolding changed
 joined target gain allowed most rise lower due result a b c = rw (c, b, a)
 
 pub returns : goal.returns
-returns c = joined _ _ _ _ _ _ _ _ c.smaller.ensures c.pick_f32-due.ensures c.clamp.ensures
+returns c = joined _ _ _ _ _ _ _ _ c.smaller.ensures c.pick-due.ensures c.clamp.ensures

@@ -11,4 +11,4 @@ unfolding increase
 rises first t change times result n r = rw (r, n)
 
 pub returns : goal.returns
-returns c = rises _ _ _ _ _ c.nearest_u32_to_f32.ensures c.pick_f32.ensures
+returns c = rises _ _ _ _ _ c.nearest_u32_to_f32.ensures c.pick.ensures

@@ -13,4 +13,4 @@ unfolding under_envelope
 joined gain last envelope reliable above lowered result a b c = rw (c, b, a)
 
 pub returns : goal.returns
-returns c = joined _ _ _ _ _ _ _ c.larger.ensures c.smaller-lowered.ensures c.pick_f32.ensures
+returns c = joined _ _ _ _ _ _ _ c.larger.ensures c.smaller-lowered.ensures c.pick.ensures

@@ -11,4 +11,4 @@ unfolding wanted
 chosen level headroom largest rest result a b = rw (b, a)
 
 pub returns : goal.returns
-returns c = chosen _ _ _ _ _ c.pick_f32-rest.ensures c.pick_f32.ensures
+returns c = chosen _ _ _ _ _ c.pick-rest.ensures c.pick.ensures

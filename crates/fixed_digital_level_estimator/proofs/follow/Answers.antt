@@ -4,4 +4,4 @@ use Rattle.fixed_digital_level_estimator.proofs.follow.Goals as goal
 
 pub returns : goal.returns
 unfolding decayed
-returns c = c.pick_f32.ensures
+returns c = c.pick.ensures

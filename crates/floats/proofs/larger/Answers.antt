@@ -4,4 +4,4 @@ use Rattle.floats.proofs.larger.Goals as goal
 
 pub returns : goal.returns
 unfolding larger
-returns c = c.pick_f32.ensures
+returns c = c.pick.ensures

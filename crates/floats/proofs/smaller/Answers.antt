@@ -4,4 +4,4 @@ use Rattle.floats.proofs.smaller.Goals as goal
 
 pub returns : goal.returns
 unfolding smaller
-returns c = c.pick_f32.ensures
+returns c = c.pick.ensures

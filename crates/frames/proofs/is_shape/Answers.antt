@@ -23,7 +23,7 @@ pub returns : goal.returns
 unfolding is_shape
 returns c =
     let at = c.args in
-    rw (c.pick_usize-c.ensures, c.pick_usize-s.ensures, c.is_samples.ensures)
+    rw (c.pick-c.ensures, c.pick-s.ensures, c.is_samples.ensures)
     (same-product (leb 1 at.channels && leb at.channels 8 && is_samples at.samples) at.channels at.samples at.length)
 
 pub overflow_mul-result : goal.overflow_mul-result
@@ -32,7 +32,7 @@ overflow_mul-result c =
     record {
       fits =
           lt_of_le_of_lt {m = 3840}
-          (rw (c.pick_usize-c.ensures, c.pick_usize-s.ensures, c.is_samples.ensures)
+          (rw (c.pick-c.ensures, c.pick-s.ensures, c.is_samples.ensures)
           (small_product (leb 1 at.channels && leb at.channels 8 && is_samples at.samples) at.channels at.samples
           (λ h. let known = sizes_facts at.channels at.samples h in (known.eight, known.each.most))))
           (lit< tt);

@@ -16,8 +16,8 @@ loop-i-preserved c =
     let loop = c.loop-i in
     let i = loop.i in (
       omega arith,
-      scan (λ (ys : List Float). last_below level i loop.piece ys) (λ (ys : List Float). last_below level (i + 1) c.pick_usize-piece.result ys) knots i nan (omega arith)
-          (rw (add-one i, c.pick_usize-piece.ensures))
+      scan (λ (ys : List Float). last_below level i loop.piece ys) (λ (ys : List Float). last_below level (i + 1) c.pick-piece.result ys) knots i nan (omega arith)
+          (rw (add-one i, c.pick-piece.ensures))
           ∙ loop.invariant.1,
     )
 

@@ -30,7 +30,7 @@ overflow_mul-result c =
     record {
       fits =
           lt_of_le_of_lt {m = 16}
-          (rw (c.pick_usize-c.ensures, c.is_sizes-sizes.ensures)
+          (rw (c.pick-c.ensures, c.is_sizes-sizes.ensures)
           (small-channels (is_sizes at.channels at.samples) at.channels (λ h. (sizes_facts at.channels at.samples h).eight)))
           (lit< tt);
     }
@@ -41,7 +41,7 @@ overflow_mul-result-2 c =
     record {
       fits =
           lt_of_le_of_lt {m = 7680}
-          (rw (c.pick_usize-c.ensures, c.pick_usize-s.ensures, c.is_sizes-sizes.ensures)
+          (rw (c.pick-c.ensures, c.pick-s.ensures, c.is_sizes-sizes.ensures)
           (mul-le-mul (small-channels (is_sizes at.channels at.samples) at.channels (λ h. (sizes_facts at.channels at.samples h).eight))
           (small-samples (is_sizes at.channels at.samples) at.samples (λ h. (sizes_facts at.channels at.samples h).each.most))))
           (lit< tt);
@@ -51,5 +51,5 @@ pub returns : goal.returns
 unfolding is_frame
 returns c =
     let at = c.args in
-    rw (c.pick_usize-c.ensures, c.pick_usize-s.ensures, c.is_sizes-sizes.ensures)
+    rw (c.pick-c.ensures, c.pick-s.ensures, c.is_sizes-sizes.ensures)
     (same-product (is_sizes at.channels at.samples) at.channels at.samples at.length)

@@ -15,4 +15,4 @@ unfolding turned published
 turns speech t count next after n a = rw (a, n)
 
 pub returns : goal.returns
-returns c = turns _ _ _ _ _ c.longer-next.ensures c.pick_u32.ensures
+returns c = turns _ _ _ _ _ c.longer-next.ensures c.pick.ensures

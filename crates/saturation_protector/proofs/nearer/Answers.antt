@@ -4,4 +4,4 @@ use Rattle.saturation_protector.proofs.nearer.Goals as goal
 
 pub returns : goal.returns
 unfolding nearer
-returns c = rw (c.clamp.ensures, c.pick_f32-stays.ensures)
+returns c = rw (c.clamp.ensures, c.pick-stays.ensures)

@@ -25,7 +25,7 @@ within s o n k e h = go (leb s o) refl e
 
 pub loop-i-init : goal.loop-i-init
 loop-i-init c =
-    let fit = within (length c.args.src.now) (length c.args.out.now) c.pick_usize-count.result _ c.pick_usize-count.ensures (λ h. (omega arith, omega arith)) in
+    let fit = within (length c.args.src.now) (length c.args.out.now) c.pick-count.result _ c.pick-count.ensures (λ h. (omega arith, omega arith)) in
     (paste-zero c.args.out.now 0 c.args.src.now, omega arith, fit.0, fit.1, refl)
 
 -- one byte more
@@ -63,7 +63,7 @@ pub returns : goal.returns
 unfolding put
 returns c =
     record {
-      value = c.pick_u32.ensures;
-      out_after = copied c.args.src.now c.args.out.now c.loop-i.out c.pick_usize-count.result c.loop-i.i
-          c.pick_usize-count.ensures (omega arith) c.loop-i.invariant.0;
+      value = c.pick.ensures;
+      out_after = copied c.args.src.now c.args.out.now c.loop-i.out c.pick-count.result c.loop-i.i
+          c.pick-count.ensures (omega arith) c.loop-i.invariant.0;
     }

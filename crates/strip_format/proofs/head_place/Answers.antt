@@ -24,9 +24,9 @@ place v strip bytes length' whole after number r h b p q s n t =
 
 pub returns-then-strip-ge-THRESHOLD_AT : goal.returns-then-strip-ge-THRESHOLD_AT
 returns-then-strip-ge-THRESHOLD_AT c =
-    place c.args.version c.args.strip.now c.head_size-bytes.result c.two_at-length.result c.pick_u32-whole.result
-    c.pick_u32-after_version.result c.number.result c.pick_u32.result c.if-strip-ge-THRESHOLD_AT.true c.head_size-bytes.ensures.value
-    c.two_at-length.ensures.value c.pick_u32-whole.ensures c.pick_u32-after_version.ensures c.number.ensures.value c.pick_u32.ensures
+    place c.args.version c.args.strip.now c.head_size-bytes.result c.two_at-length.result c.pick-whole.result
+    c.pick-after_version.result c.number.result c.pick.result c.if-strip-ge-THRESHOLD_AT.true c.head_size-bytes.ensures.value
+    c.two_at-length.ensures.value c.pick-whole.ensures c.pick-after_version.ensures c.number.ensures.value c.pick.ensures
 
 pub returns-else-strip-ge-THRESHOLD_AT : goal.returns-else-strip-ge-THRESHOLD_AT
 unfolding head_place

@@ -23,8 +23,8 @@ place strip at length' whole r l h p q s =
 
 pub returns-then-left-ge2 : goal.returns-then-left-ge2
 returns-then-left-ge2 c =
-    place c.args.strip.now c.args.at c.two_at-length.result c.pick_u32-whole.result c.pick_u32.result c.requires
-    c.if-left-ge2.true c.two_at-length.ensures.value c.pick_u32-whole.ensures c.pick_u32.ensures
+    place c.args.strip.now c.args.at c.two_at-length.result c.pick-whole.result c.pick.result c.requires
+    c.if-left-ge2.true c.two_at-length.ensures.value c.pick-whole.ensures c.pick.ensures
 
 short : (strip : List ℕ) (at : ℕ) → at < length strip → length strip - at < 2 → cut ≡ record_place strip at
 unfolding record_place

@@ -7,8 +7,8 @@ pub returns : goal.returns
 returns c =
     let line = c.args.line.now in
     let out = c.args.out.now in
-    let n = c.pick_usize-length.result in
-    let k = copied_all_or_none line out n c.pick_usize-length.ensures in record {
-      value = told line out c.pick_u32.result n c.pick_u32.ensures c.pick_usize-length.ensures;
+    let n = c.pick-length.result in
+    let k = copied_all_or_none line out n c.pick-length.ensures in record {
+      value = told line out c.pick.result n c.pick.ensures c.pick-length.ensures;
       out_after = ap (λ (l : List ℕ). l ++ drop n out) c.copy_from_slice.ensures.after ∙ k.copied;
     }

@@ -7,4 +7,4 @@ returns c =
     let tests = c in
     let s = tests in
     made_parts s.args.settings s.args.threshold s.args.samples s.args.capacity tests.is_samples-shape.ensures tests.accepted.ensures
-    tests.is_threshold.ensures tests.is_capacity.ensures c.refusal-reply.ensures c.pick_u32-frames.ensures c.pick_usize-size.ensures c.four-chain.ensures
+    tests.is_threshold.ensures tests.is_capacity.ensures c.refusal-reply.ensures c.pick-frames.ensures c.pick-size.ensures c.four-chain.ensures

@@ -43,5 +43,5 @@ pub returns : goal.returns
 returns c =
     let picked = c in
     let told = picked in
-    handed _ told.passes-ok.ensures told.refusal.ensures picked.pick_f32.ensures c.pick_f32-2.ensures
-    c.pick_f32-3.ensures
+    handed _ told.passes-ok.ensures told.refusal.ensures picked.pick.ensures c.pick-2.ensures
+    c.pick-3.ensures

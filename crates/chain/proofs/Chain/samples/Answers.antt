@@ -4,4 +4,4 @@ use Rattle.chain.proofs.Chain.samples.Goals as goal
 
 pub returns : goal.returns
 unfolding samples_told
-returns c = rw (c.pick_usize.ensures, c.refusal.ensures, c.passes-ok.ensures)
+returns c = rw (c.pick.ensures, c.refusal.ensures, c.passes-ok.ensures)

@@ -16,4 +16,4 @@ unfolding heard
 handed e ok reply level o r l = rw (r, l, o)
 
 pub returns : goal.returns
-returns c = handed _ _ _ _ c.passes-ok.ensures c.refusal.ensures c.pick_f32.ensures
+returns c = handed _ _ _ _ c.passes-ok.ensures c.refusal.ensures c.pick.ensures

@@ -24,4 +24,4 @@ unfolding made
 made_by samples ok reply size o r s = rw (r, s, sized-or-none ok samples, o)
 
 pub returns : goal.returns
-returns c = made_by _ _ _ _ c.is_samples-ok.ensures c.refusal-reply.ensures c.pick_usize-s.ensures
+returns c = made_by _ _ _ _ c.is_samples-ok.ensures c.refusal-reply.ensures c.pick-s.ensures

@@ -23,4 +23,4 @@ unfolding cleared
 cleared_by e ok reply level o r l = rw (r, l, level-or-all ok e, o)
 
 pub returns : goal.returns
-returns c = cleared_by _ _ _ _ c.passes-ok.ensures c.refusal-reply.ensures c.pick_f32-level.ensures
+returns c = cleared_by _ _ _ _ c.passes-ok.ensures c.refusal-reply.ensures c.pick-level.ensures

@@ -14,4 +14,4 @@ unfolding told
 handed a ok reply factor o r f = rw (r, f, o)
 
 pub returns : goal.returns
-returns c = handed _ _ _ _ c.passes-ok.ensures c.refusal.ensures c.pick_f32.ensures
+returns c = handed _ _ _ _ c.passes-ok.ensures c.refusal.ensures c.pick.ensures

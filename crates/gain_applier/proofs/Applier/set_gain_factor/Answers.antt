@@ -24,4 +24,4 @@ aims a factor ok fits current reply o f c r = rw (r, c, chosen (ok && fits) a fa
 
 pub returns : goal.returns
 returns c =
-    aims _ _ _ _ _ _ c.passes-ok.ensures c.is_gain_factor-fits.ensures c.pick_f32-current.ensures c.refusal.ensures
+    aims _ _ _ _ _ _ c.passes-ok.ensures c.is_gain_factor-fits.ensures c.pick-current.ensures c.refusal.ensures

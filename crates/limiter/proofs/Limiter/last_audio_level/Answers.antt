@@ -16,4 +16,4 @@ unfolding heard
 handed l ok reply level o r v = rw (r, v, o)
 
 pub returns : goal.returns
-returns c = handed _ _ _ _ c.passes-ok.ensures c.refusal.ensures c.pick_f32.ensures
+returns c = handed _ _ _ _ c.passes-ok.ensures c.refusal.ensures c.pick.ensures

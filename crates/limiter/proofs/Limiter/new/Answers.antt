@@ -24,4 +24,4 @@ chosen false samples = refl
 
 pub returns : goal.returns
 unfolding made
-returns c = rw (c.refusal-reply.ensures, c.pick_usize-s.ensures, c.new.ensures, c.pick_f32.ensures, chosen c.is_samples-ok.result, c.is_samples-ok.ensures)
+returns c = rw (c.refusal-reply.ensures, c.pick-s.ensures, c.new.ensures, c.pick.ensures, chosen c.is_samples-ok.result, c.is_samples-ok.ensures)

@@ -37,7 +37,7 @@ start-long {n} h xs l = let t = length-take n xs in omega arith
 pub channel_factors-by-requires : goal.channel_factors-by-requires
 channel_factors-by-requires c =
     let a = c.args in
-    let told = told a.self a.frame.now a.channels a.samples _ _ _ c.pick_u32-reply.ensures c.passes-ok.ensures c.compute_level-found.ensures in
+    let told = told a.self a.frame.now a.channels a.samples _ _ _ c.pick-reply.ensures c.passes-ok.ensures c.compute_level-found.ensures in
     let q = sym told ∙ c.if-reply-eq-DONE.true in
     let f = fine a.self a.frame.now a.channels a.samples q in
     (f.parts, f.small)
@@ -45,7 +45,7 @@ channel_factors-by-requires c =
 pub slice_bounds-by-end : goal.slice_bounds-by-end
 slice_bounds-by-end c =
     let a = c.args in
-    let told = told a.self a.frame.now a.channels a.samples _ _ _ c.pick_u32-reply.ensures c.passes-ok.ensures c.compute_level-found.ensures in
+    let told = told a.self a.frame.now a.channels a.samples _ _ _ c.pick-reply.ensures c.passes-ok.ensures c.compute_level-found.ensures in
     let q = sym told ∙ c.if-reply-eq-DONE.true in
     let f = fine a.self a.frame.now a.channels a.samples q in
     let h : length c.channel_factors-by.result ≡ 480 = search rules in
@@ -54,7 +54,7 @@ slice_bounds-by-end c =
 pub slice_bounds-limit_channels-end : goal.slice_bounds-limit_channels-end
 slice_bounds-limit_channels-end c =
     let a = c.args in
-    let told = told a.self a.frame.now a.channels a.samples _ _ _ c.pick_u32-reply.ensures c.passes-ok.ensures c.compute_level-found.ensures in
+    let told = told a.self a.frame.now a.channels a.samples _ _ _ c.pick-reply.ensures c.passes-ok.ensures c.compute_level-found.ensures in
     let q = sym told ∙ c.if-reply-eq-DONE.true in
     let f = fine a.self a.frame.now a.channels a.samples q in
     sym (start-long f.most c.channel_factors-by.result (search rules))
@@ -62,7 +62,7 @@ slice_bounds-limit_channels-end c =
 pub limit_channels-requires : goal.limit_channels-requires
 limit_channels-requires c =
     let a = c.args in
-    let told = told a.self a.frame.now a.channels a.samples _ _ _ c.pick_u32-reply.ensures c.passes-ok.ensures c.compute_level-found.ensures in
+    let told = told a.self a.frame.now a.channels a.samples _ _ _ c.pick-reply.ensures c.passes-ok.ensures c.compute_level-found.ensures in
     let q = sym told ∙ c.if-reply-eq-DONE.true in
     let f = fine a.self a.frame.now a.channels a.samples q in
     let ready : Ready a.self = record { level = search rules; carried = search rules; state = f.settings } in
@@ -78,7 +78,7 @@ pub returns-then-reply-eq-DONE : goal.returns-then-reply-eq-DONE
 unfolding processed
 returns-then-reply-eq-DONE c =
     let a = c.args in
-    let told = told a.self a.frame.now a.channels a.samples _ _ _ c.pick_u32-reply.ensures c.passes-ok.ensures c.compute_level-found.ensures in
+    let told = told a.self a.frame.now a.channels a.samples _ _ _ c.pick-reply.ensures c.passes-ok.ensures c.compute_level-found.ensures in
     let q = sym told ∙ c.if-reply-eq-DONE.true in
     let f = fine a.self a.frame.now a.channels a.samples q in
     let ready : Ready a.self = record { level = search rules; carried = search rules; state = f.settings } in
@@ -92,17 +92,17 @@ returns-then-reply-eq-DONE c =
     record {
       value = rw (told, q) (ap (λ (z : Limiter). record { reply = 0; limiter = z }) j.0);
       frame_after = frame_is;
-      scale = λ (h : c.pick_u32-reply.result ≡ done). subst FullScale (sym frame_is) (processed_full_scale a.self a.frame.now a.channels a.samples held ready (sym told ∙ h));
+      scale = λ (h : c.pick-reply.result ≡ done). subst FullScale (sym frame_is) (processed_full_scale a.self a.frame.now a.channels a.samples held ready (sym told ∙ h));
     }
 
 pub returns-else-reply-eq-DONE : goal.returns-else-reply-eq-DONE
 unfolding processed
 returns-else-reply-eq-DONE c =
     let a = c.args in
-    let told = told a.self a.frame.now a.channels a.samples _ _ _ c.pick_u32-reply.ensures c.passes-ok.ensures c.compute_level-found.ensures in
-    let n = ne_eqb c.pick_u32-reply.result done c.if-reply-eq-DONE.false in
+    let told = told a.self a.frame.now a.channels a.samples _ _ _ c.pick-reply.ensures c.passes-ok.ensures c.compute_level-found.ensures in
+    let n = ne_eqb c.pick-reply.result done c.if-reply-eq-DONE.false in
     record {
       value = rw (← told, n);
       frame_after = rw (← told, n);
-      scale = λ (h : c.pick_u32-reply.result ≡ done). absurd (c.if-reply-eq-DONE.false h);
+      scale = λ (h : c.pick-reply.result ≡ done). absurd (c.if-reply-eq-DONE.false h);
     }

@@ -16,7 +16,7 @@ returns-then-run-written c =
         ← c.less-written.ensures,
         le-leb _ _ c.if-written-most.true,
         c.if-run-written.true,
-        c.pick_usize.ensures,
+        c.pick.ensures,
         c.write_head-reply.ensures.value,
       );
       out_after = rw (

@@ -6,6 +6,6 @@ pub returns : goal.returns
 unfolding started
 returns c =
     record {
-      value = rw (← c.put_format-done.ensures.value, c.pick_usize.ensures, c.extent_of-extent.ensures);
+      value = rw (← c.put_format-done.ensures.value, c.pick.ensures, c.extent_of-extent.ensures);
       out_after = c.put_format-done.ensures.out_after;
     }

@@ -6,6 +6,6 @@ pub returns : goal.returns
 unfolding metered
 returns c =
     record {
-      value = rw (← c.put_loudness-done.ensures.value, c.pick_usize-2.ensures, c.pick_usize.ensures, c.less.ensures);
+      value = rw (← c.put_loudness-done.ensures.value, c.pick-2.ensures, c.pick.ensures, c.less.ensures);
       out_after = c.put_loudness-done.ensures.out_after;
     }

@@ -51,5 +51,5 @@ pub returns : goal.returns
 returns c =
     let picks = c in
     let when = picks in
-    joined _ _ _ _ _ _ _ _ _ when.larger-larger.ensures when.pushed_when-ring.ensures picks.pick_f32-largest.ensures picks.pick_u32-elapsed.ensures c.oldest_or.ensures
+    joined _ _ _ _ _ _ _ _ _ when.larger-larger.ensures when.pushed_when-ring.ensures picks.pick-largest.ensures picks.pick-elapsed.ensures c.oldest_or.ensures
     c.nearer-headroom.ensures

@@ -18,7 +18,7 @@ returns-then-speech c =
     let test = c in
     let turn = test in
     let at = turn.args in
-    rw (c.pick_f32-headroom.ensures, c.advanced-preliminary.ensures, turn.step-turn.ensures, test.if-speech.true)
+    rw (c.pick-headroom.ensures, c.advanced-preliminary.ensures, turn.step-turn.ensures, test.if-speech.true)
     (sym (analyzed_as at.self at.probability at.peak at.level true (sym turn.is_speech-speech.ensures ∙ test.if-speech.true)))
 
 -- any other

@@ -4,4 +4,4 @@ use Rattle.saturation_protector.proofs.Protector.headroom_db.Goals as goal
 
 pub returns : goal.returns
 unfolding told
-returns c = rw (c.pick_f32.ensures, c.refusal.ensures, c.passes-ok.ensures)
+returns c = rw (c.pick.ensures, c.refusal.ensures, c.passes-ok.ensures)

@@ -4,4 +4,4 @@ use Rattle.saturation_protector_buffer.proofs.Ring.capacity.Goals as goal
 
 pub returns : goal.returns
 unfolding held
-returns c = rw (c.pick_u32.ensures, c.refusal.ensures, c.passes-ok.ensures)
+returns c = rw (c.pick.ensures, c.refusal.ensures, c.passes-ok.ensures)

@@ -4,4 +4,4 @@ use Rattle.saturation_protector_buffer.proofs.Ring.front_index.Goals as goal
 
 pub returns : goal.returns
 unfolding start
-returns c = rw c.pick_usize.ensures
+returns c = rw c.pick.ensures

@@ -5,4 +5,4 @@ use Rattle.saturation_protector_buffer.proofs.Ring.new.Goals as goal
 
 pub returns : goal.returns
 unfolding made empty
-returns c = rw (c.pick_u32.ensures, c.refusal.ensures, c.is_capacity-ok.ensures)
+returns c = rw (c.pick.ensures, c.refusal.ensures, c.is_capacity-ok.ensures)

@@ -17,4 +17,4 @@ unfolding forgotten
 returns c =
     let tests = c in
     let r = tests.args.self in
-    rw (c.pick_u32-size.ensures, c.pick_u32-place.ensures, tests.refusal-reply.ensures, tests.passes-ok.ensures, chosen (passes r) r)
+    rw (c.pick-size.ensures, c.pick-place.ensures, tests.refusal-reply.ensures, tests.passes-ok.ensures, chosen (passes r) r)

@@ -4,4 +4,4 @@ use Rattle.saturation_protector_buffer.proofs.Ring.size.Goals as goal
 
 pub returns : goal.returns
 unfolding sized
-returns c = rw (c.pick_usize.ensures, c.refusal.ensures, c.passes-ok.ensures)
+returns c = rw (c.pick.ensures, c.refusal.ensures, c.passes-ok.ensures)

@@ -4,4 +4,4 @@ use Rattle.speech_level_estimator.proofs.Estimator.level_dbfs.Goals as goal
 
 pub returns : goal.returns
 unfolding level_told
-returns c = rw (c.pick_f32.ensures, c.refusal.ensures, c.passes-ok.ensures)
+returns c = rw (c.pick.ensures, c.refusal.ensures, c.passes-ok.ensures)

@@ -13,4 +13,4 @@ chosen shape setting figure sample a b c d p q r s = rw (s, r, q, p)
 
 pub returns : goal.returns
 returns c =
-    chosen _ _ _ _ _ _ _ _ c.pick_u32-after_figure.ensures c.pick_u32-after_setting.ensures c.pick_u32-after_shape.ensures c.pick_u32.ensures
+    chosen _ _ _ _ _ _ _ _ c.pick-after_figure.ensures c.pick-after_setting.ensures c.pick-after_shape.ensures c.pick.ensures

@@ -30,5 +30,5 @@ overflow_mul-channels c = omega arith
 pub returns : goal.returns
 returns c =
     by_choices c.args.bytes.now c.two_at-tag.ensures.value c.two_at-later.ensures.value c.two_at-channels.ensures.value c.four_at-rate.ensures
-    c.two_at-group.ensures.value c.two_at-bits.ensures.value c.is_samples.ensures c.pick_u32-after_group.ensures c.pick_u32-after_kind.ensures
-    c.pick_u32-after_length.ensures c.pick_u32.ensures
+    c.two_at-group.ensures.value c.two_at-bits.ensures.value c.is_samples.ensures c.pick-after_group.ensures c.pick-after_kind.ensures
+    c.pick-after_length.ensures c.pick.ensures

@@ -24,4 +24,4 @@ four_at-mask-requires c = omega arith
 pub returns : goal.returns
 returns c =
     said_by_choices c.args.bytes.now c.format_refusal-reply.ensures c.two_at-tag.ensures.value c.two_at-channels.ensures.value
-    c.four_at.ensures c.four_at-mask.ensures c.pick_usize.ensures c.pick_usize-2.ensures c.pick_u32.ensures
+    c.four_at.ensures c.four_at-mask.ensures c.pick.ensures c.pick-2.ensures c.pick.ensures

@@ -1,0 +1,43 @@
+-- What a call hands back shows of its reply, and the other way round. Laws.
+-- Assumes nothing.
+use Rattle.std.specs.Prelude.{◌≡◌, refl, Bool, true, false, cond, ℕ, eqb, Result, Ok, Err, IfOk, IfErr}
+use Rattle.std.proofs.lemmas.Bool.{eqb-true, eq-eqb, false≢true}
+use Rattle.std.proofs.lemmas.Result.{IfOk-at_ok, IfErr-at_err}
+use Rattle.units.specs.Replies.{done}
+use Rattle.units.specs.Handed.{refusal_of, handed}
+use Rattle.units.specs.declared.refusals.Refusal.{Refusal}
+
+-- ---- a choice between what was made and a refusal
+chosen : {A : Type 0} (b : Bool) (e : Refusal) (made : A) → b ≡ true → cond b (Ok made) (Err e) ≡ Ok made
+chosen true e made h = refl
+chosen false e made h = absurd (false≢true h)
+
+ok_shows : {A : Type 0} (b : Bool) (e : Refusal) (made : A) → IfOk (cond b (Ok made) (Err e)) (λ x. (b ≡ true) × (made ≡ x))
+ok_shows true e made = (refl, refl)
+ok_shows false e made = tt
+
+err_shows : {A B : Type 0} (b : Bool) (e : Refusal) (made : A) (more : B) → IfErr (cond b (Ok made) (Err e)) (λ d. cond b (Ok more) (Err e) ≡ Err d)
+err_shows true e made more = tt
+err_shows false e made more = refl
+
+-- ---- of a reply
+-- where nothing is refused, what was made is handed back
+pub handed_done : {A : Type 0} (reply : ℕ) (made : A) → reply ≡ done → handed reply made ≡ Ok made
+unfolding handed
+handed_done reply made h = chosen (eqb reply done) (refusal_of reply) made (eq-eqb reply done h)
+
+-- what was handed back is what was made, and then nothing is refused
+pub handed_ok : {A : Type 0} (reply : ℕ) (made other : A) → handed reply made ≡ Ok other → (reply ≡ done) × (made ≡ other)
+unfolding handed
+handed_ok reply made other h =
+    let both = IfOk-at_ok (λ x. (eqb reply done ≡ true) × (made ≡ x)) h (ok_shows (eqb reply done) (refusal_of reply) made) in
+    (eqb-true reply done both.0, both.1)
+
+-- a refusal is handed on, whatever else would have been made
+pub refused_too : {A B : Type 0} (reply : ℕ) (made : A) (more : B) (e : Refusal) → handed reply made ≡ Err e → handed reply more ≡ Err e
+unfolding handed
+refused_too reply made more e h = IfErr-at_err (λ d. handed reply more ≡ Err d) h (err_shows (eqb reply done) (refusal_of reply) made more)
+
+-- where nothing was refused, anything else is handed on as well
+pub goes_on : {A B : Type 0} (reply : ℕ) (made other : A) (more : B) → handed reply made ≡ Ok other → handed reply more ≡ Ok more
+goes_on reply made other more h = handed_done reply more (handed_ok reply made other h).0
