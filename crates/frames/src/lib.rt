@@ -9,6 +9,9 @@ ghost use Rattle.std.specs.Prelude.{◌≡◌, length};
 ghost use Rattle.frames.specs.Shape.{is_samples, is_shape};
 ghost use Rattle.frames.specs.Samples.{within, all_within};
 ghost use Rattle.frames.specs.Refusal.{frame_refusal};
+ghost use Rattle.units.specs.Handed.{handed};
+
+use units::refusals::Refusal;
 
 // The largest magnitude of a sample into the controller or the applier.
 pub const LARGEST_INPUT: f32 = 65536.0;
@@ -89,4 +92,22 @@ pub fn refusal(
 {
     let shape = is_shape(channels, samples, frame.len()) & set;
     units::replies::refusal(shape, setting, figure, are_within(bound, frame))
+}
+
+// Refuses with the first that applies to a frame, in the order 1, 4, 2, 3. Of the caller's own tests, set
+// says that the samples are those that its state was set to, setting that its settings and its state
+// pass, and figure that its figures do.
+pub fn check(
+    frame: &[f32],
+    channels: usize,
+    samples: usize,
+    set: bool,
+    setting: bool,
+    figure: bool,
+    bound: f32,
+) -> Result<(), Refusal>
+    ensures { result ≡ handed (frame_refusal frame.now channels samples set setting figure bound) tt }
+{
+    let same = is_shape(channels, samples, frame.len()) & set;
+    units::refusals::check(same, setting, figure, are_within(bound, frame))
 }
