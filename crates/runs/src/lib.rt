@@ -11,6 +11,7 @@ pub const SPEECH: f32 = 0.95;
 
 // What a frame does: how long the run is after it, whether the preliminary state is kept as the reliable
 // one, whether it is thrown away for the reliable one, and whether results are published.
+// Two flags and no enum: the law `turned_framed` chooses each of the two states by a flag of its own.
 #[derive(Clone, Copy)]
 pub struct Turn {
     pub count: u32,
@@ -27,6 +28,7 @@ pub fn is_speech(probability: f32) -> bool
 }
 
 // The run with one speech frame more: held at the threshold, and left alone where it is past it.
+#[tactic(auto, unfolding(crate::specs::Runs::longer))]
 fn longer(threshold: u32, count: u32) -> u32
     ensures { result ≡ longer threshold count }
 {
@@ -34,6 +36,7 @@ fn longer(threshold: u32, count: u32) -> u32
 }
 
 // What a frame does to a run of this many adjacent speech frames.
+#[tactic(auto, unfolding(crate::specs::Runs::turned, crate::specs::Runs::published))]
 pub fn step(speech: bool, threshold: u32, count: u32) -> Turn
     ensures { result ≡ turned speech threshold count }
 {
