@@ -2,7 +2,9 @@
 -- Assumes nothing.
 use Rattle.std.specs.Prelude.{◌≡◌, refl, Bool, true, false, cond, ℕ, eqb, Result, Ok, Err, IfOk, IfErr}
 use Rattle.std.proofs.lemmas.Bool.{eqb-true, eq-eqb, false≢true}
-use Rattle.std.proofs.lemmas.Result.{IfOk-at_ok, IfErr-at_err}
+use Rattle.std.proofs.Common.{sym, ◌∙◌, ap}
+use Rattle.std.specs.Result.{IsErrAnd}
+use Rattle.std.proofs.lemmas.Result.{IfOk-at_ok, IfErr-at_err, err_from_is_err_and}
 use Rattle.units.specs.Replies.{done}
 use Rattle.units.specs.Handed.{refusal_of, handed}
 use Rattle.units.specs.declared.refusals.Refusal.{Refusal}
@@ -41,3 +43,19 @@ refused_too reply made more e h = IfErr-at_err (λ d. handed reply more ≡ Err 
 -- where nothing was refused, anything else is handed on as well
 pub goes_on : {A B : Type 0} (reply : ℕ) (made other : A) (more : B) → handed reply made ≡ Ok other → handed reply more ≡ Ok more
 goes_on reply made other more h = handed_done reply more (handed_ok reply made other h).0
+
+-- ---- of a check whose answer goes on by `?`
+-- what `?` hands out where the check refused: the refusal, whatever would have been made
+pub refused_by : {A B : Type 0} (r : Result A Refusal) (e : Refusal) (reply : ℕ) (made : B) (more : A)
+    → IsErrAnd r (λ d. d ≡ e) → Err e ≡ handed reply made → r ≡ handed reply more
+refused_by r e reply made more out h =
+    let told = err_from_is_err_and r out in
+    told.1 ∙ ap Err told.2 ∙ sym (refused_too reply made more e (sym h))
+
+-- and what may be made where it did not
+pub passed_by : {A B : Type 0} (reply : ℕ) (made other : B) (more : A) → Ok other ≡ handed reply made → Ok more ≡ handed reply more
+passed_by reply made other more h = sym (goes_on reply made other more (sym h))
+
+-- nothing was refused then
+pub passed_done : {B : Type 0} (reply : ℕ) (made other : B) → Ok other ≡ handed reply made → reply ≡ done
+passed_done reply made other h = (handed_ok reply made other (sym h)).0
