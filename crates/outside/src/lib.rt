@@ -1,8 +1,13 @@
 // What the programs ask of the world around them: the words of the command, why a call failed, and whether standard output
-// keeps what was written to it.
+// keeps what was written to it. What the system answers nobody can promise: a function without a promise hands that on.
 
 #![tactic(auto)]
 
+ghost use Rattle.std.specs.Prelude.{◌≡◌, ◌≢◌, false, length, take, IsOk, IsErr, IfErr, IsErrAnd};
+ghost use Rattle.std.specs.Bool.{OnFalse};
+ghost use Rattle.std.specs.Result.{result_ok};
+ghost use Rattle.std.specs.Str.{IsUtf8};
+ghost use Rattle.std.specs.IoError.{error_kind};
 ghost use Rattle.io.specs.Counts.{IsPrefixLen};
 
 use std::env::{Env, FillError};
@@ -40,7 +45,9 @@ pub fn word_count(rt: &HostRuntime) -> usize {
 }
 
 // Opens the file that a path names, which is text.
-fn open_path(rt: &HostRuntime, path: &[u8], how: &OpenOptions) -> Result<File> {
+fn open_path(rt: &HostRuntime, path: &[u8], how: &OpenOptions) -> Result<File>
+    ensures { ¬ (IsUtf8 path.now) → IsErrAnd result (λ e. error_kind e ≡ ErrorKind.InvalidFilename) }
+{
     match str::from_utf8(path) {
         Ok(text) => how.open(rt, text),
         Err(_) => Err(Error::from(ErrorKind::InvalidFilename)),
@@ -63,7 +70,9 @@ pub fn tell(rt: &HostRuntime, text: &str) {
 }
 
 // The reason that an error's text gives, without the system's number for it.
-fn reason(text: &str) -> &str {
+fn reason(text: &str) -> &str
+    ensures { take (length result.now) text.now ≡ result.now }
+{
     match text.split_once(" (os error ") {
         Some((reason, _)) => reason,
         None => text,
@@ -78,9 +87,27 @@ pub fn fail(rt: &HostRuntime, what: &str, error: Error) {
     };
 }
 
-// Has the system put what was written to a file on its disk. What can put nothing there has nothing to fail.
-pub fn settle_file(file: &File) -> Result<()> {
-    match file.sync_data() {
+// Hands on what went well. What failed is told on standard error, as the caller names it, and there is nothing.
+pub fn or_tell<T>(rt: &HostRuntime, what: &str, answer: Result<T>) -> Option<T>
+    ensures { result ≡ result_ok answer }
+{
+    match answer {
+        Ok(given) => Some(given),
+        Err(e) => {
+            fail(rt, what, e);
+            None
+        }
+    }
+}
+
+// Whether what was asked of a file went well: what can put nothing on a disk has nothing to fail.
+fn settled(answer: Result<()>) -> Result<()>
+    ensures ok { IsOk answer → IsOk result }
+    ensures passed_on { IfErr result (λ e. answer ≡ Err e) }
+    ensures nothing_to_fail { IfErr result (λ e. (error_kind e ≢ ErrorKind.InvalidInput) × (error_kind e ≢ ErrorKind.Unsupported)) }
+    ensures failed { IfErr answer (λ e. error_kind e ≢ ErrorKind.InvalidInput → error_kind e ≢ ErrorKind.Unsupported → IsErr result) }
+{
+    match answer {
         Ok(()) => Ok(()),
         Err(e) => match e.kind() {
             ErrorKind::InvalidInput | ErrorKind::Unsupported => Ok(()),
@@ -89,12 +116,14 @@ pub fn settle_file(file: &File) -> Result<()> {
     }
 }
 
+// Has the system put what was written to a file on its disk.
+pub fn settle_file(file: &File) -> Result<()> {
+    settled(file.sync_data())
+}
+
 // Whether standard output is a plain file.
 fn is_plain_output(rt: &HostRuntime) -> bool {
-    match fs::metadata(rt, OUTPUT) {
-        Ok(known) => known.is_file(),
-        Err(_) => false,
-    }
+    fs::metadata(rt, OUTPUT).is_ok_and(|known| known.is_file())
 }
 
 // The same for a plain file that standard output is. It is opened once more for that; where it cannot be, there is nobody to ask.
@@ -114,4 +143,16 @@ pub fn settle_output(rt: &HostRuntime) -> Result<()> {
     } else {
         Ok(())
     }
+}
+
+// The same where all went well so far, and whether that does too. What fails is told, as the caller names the output.
+pub fn settle_if_well(rt: &HostRuntime, what: &str, well: bool) -> bool
+    ensures { OnFalse well (result ≡ false) }
+{
+    well && or_tell(rt, what, settle_output(rt)).is_some()
+}
+
+// Writes bytes to standard output, and answers whether that went well. What fails is told, as the caller names the output.
+pub fn write_output(rt: &HostRuntime, what: &str, bytes: &[u8]) -> bool {
+    or_tell(rt, what, rt.write_all(bytes)).is_some()
 }
