@@ -5,7 +5,6 @@ use Rattle.std.specs.Float.Ieee.{add, sub, mul, of_int}
 use Rattle.std.specs.Float.Ieee.Positive.{num, den}
 use Rattle.units.specs.Figures.{gain}
 use Rattle.units.specs.Replies.{done, bad_figure}
-use Rattle.decibels.specs.declared.Answer.{Answer}
 
 -- "A (n 0 to 51) and B (k 0 to 15) hold the f32 nearest to 10^(n/20) and 10^(k/320)": their bits
 unfoldable pub whole_bits : List ℕ
@@ -47,6 +46,11 @@ ratio_of x =
     mul binary32
     (mul binary32 (A (steps x / 16)) (B (steps x % 16)))
     (add binary32 (from_bits binary32 0x3f80_0000) (mul binary32 (rest x) (from_bits binary32 0x3deb_c8e2)))
+
+-- a reply's number, and the ratio: 0 where it is refused
+pub record Answer : Type 0 where
+  pub reply : ℕ
+  pub ratio : Float
 
 -- "gain in dB to be made a ratio: 0 to 51", and reply 2 outside
 unfoldable pub answer : Float → Answer

@@ -6,9 +6,10 @@
 ghost use Rattle.std.specs.Prelude.{◌≡◌, T};
 ghost use Rattle.decibels.specs.Ratio.{ratio_of, answer};
 ghost use Rattle.units.specs.Figures.{gain};
+ghost use Rattle.units.specs.Handed.{handed};
 
 use units::kinds::Db;
-use units::replies::{DONE, FIGURE};
+use units::refusals::{Refusal, check};
 
 // A: the f32 nearest to 10^(n/20), for n from 0 to 51.
 const WHOLE: [f32; 52] = [
@@ -26,29 +27,13 @@ const SIXTEENTH: [f32; 16] = [
     1.0669031, 1.0746078, 1.0823681, 1.0901845, 1.0980573, 1.105987, 1.1139739,
 ];
 
-// A reply's number, and the ratio: 0 where it is refused.
-#[derive(Clone, Copy)]
-pub struct Answer {
-    pub reply: u32,
-    pub ratio: f32,
-}
-
 // The ratio of a gain from 0 to 51 dB, and a refusal by 2 of any other.
-pub fn ratio(gain: Db) -> Answer
-    ensures { result ≡ answer gain.0 }
+pub fn ratio(gain: Db) -> Result<f32, Refusal>
+    ensures { result ≡ handed (answer gain.0).reply (answer gain.0).ratio }
 {
     let x = gain.0;
-    if units::figures::is_gain(Db(x)) {
-        Answer {
-            reply: DONE,
-            ratio: worked_out(x),
-        }
-    } else {
-        Answer {
-            reply: FIGURE,
-            ratio: 0.0,
-        }
-    }
+    check(true, true, units::figures::is_gain(Db(x)), true)?;
+    Ok(worked_out(x))
 }
 
 // The ratio of x: (A[n]*B[k])*(1+f*0.11512925) where x = n + k/16 + f.
