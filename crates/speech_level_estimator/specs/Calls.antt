@@ -4,12 +4,25 @@ use Rattle.std.specs.Float.{binary32}
 use Rattle.units.specs.Figures.{probability, rms}
 use Rattle.units.specs.Replies.{refusal}
 use Rattle.units.specs.Settings.{accepted, threshold}
+use Rattle.units.specs.declared.kinds.Dbfs.{Dbfs}
 use Rattle.units.specs.declared.settings.Settings.{Settings}
 use Rattle.speech_level_estimator.specs.Estimator.{starting_level, passes, nothing, fresh, updated, interrupted}
 use Rattle.speech_level_estimator.specs.declared.Estimator.{Estimator}
-use Rattle.speech_level_estimator.specs.declared.Next.{Next}
-use Rattle.speech_level_estimator.specs.declared.Level.{Level}
-use Rattle.speech_level_estimator.specs.declared.Confidence.{Confidence}
+
+-- a reply's number, and the estimator that goes on from there: the one that came in where it is refused, and all 0 and false where it is a new one
+pub record Next : Type 0 where
+  pub reply : ℕ
+  pub estimator : Estimator
+
+-- a reply's number, and the published level: 0 where it is refused
+pub record Level : Type 0 where
+  pub reply : ℕ
+  pub level : Dbfs
+
+-- a reply's number, and whether the level is trusted: not, where it is refused
+pub record Confidence : Type 0 where
+  pub reply : ℕ
+  pub confident : Bool
 
 -- a new estimator: 4 where a setting or the threshold is out of range
 unfoldable pub made : Settings → ℕ → Next

@@ -3,13 +3,15 @@
 
 #![tactic(auto)]
 
-ghost use Rattle.std.specs.Prelude.{◌≡◌, ◌-◌, if◌then◌else◌};
+ghost use Rattle.std.specs.Prelude.{◌≡◌, true, if◌then◌else◌};
 ghost use Rattle.speech_level_estimator.specs.Average.{none, starting, passes, advanced, level};
 ghost use Rattle.speech_level_estimator.specs.Estimator.{starting_level, trusted, passes as passes_estimator, nothing, fresh, updated, interrupted};
 ghost use Rattle.speech_level_estimator.specs.Calls.{made, stepped, gap, restarted, level_told, confidence_told};
+ghost use Rattle.units.specs.Handed.{handed};
+ghost use Rattle.units.specs.Replies.{refusal};
 
 use units::kinds::Dbfs;
-use units::replies::refusal;
+use units::refusals::{Refusal, check};
 use units::settings::Settings;
 
 // How many milliseconds a frame lasts.
@@ -53,42 +55,6 @@ pub struct Estimator {
     pub count: u32,
 }
 
-// A reply's number, and the estimator that goes on from there: the one that came in where it is refused,
-// and all 0 and false where it is a new one.
-#[derive(Clone, Copy)]
-pub struct Next {
-    pub reply: u32,
-    pub estimator: Estimator,
-}
-
-// A reply's number, and the published level: 0 where it is refused.
-#[derive(Clone, Copy)]
-pub struct Level {
-    pub reply: u32,
-    pub level: Dbfs,
-}
-
-// A reply's number, and whether the level is trusted: not, where it is refused.
-#[derive(Clone, Copy)]
-pub struct Confidence {
-    pub reply: u32,
-    pub confident: bool,
-}
-
-// The first of two averages where b, otherwise the second.
-fn pick_average(b: bool, x: Average, y: Average) -> Average
-    ensures { result ≡ (if b then x else y) }
-{
-    if b { x } else { y }
-}
-
-// a less b, and 0 where b is larger.
-fn less(a: u32, b: u32) -> u32
-    ensures { result ≡ a - b }
-{
-    if b <= a { a - b } else { 0 }
-}
-
 impl Average {
     // The average of a level alone, with the weight 1 and all of the time left.
     fn starting(initial: f32) -> Average
@@ -118,7 +84,7 @@ impl Average {
         ensures { result ≡ passes self }
     {
         let weight = self.weight;
-        let most = std::num::nearest_u32_to_f32(less(450, self.left));
+        let most = std::num::nearest_u32_to_f32(450u32.saturating_sub(self.left));
         // In f64 neither the product nor the sum is rounded.
         let sum = std::num::f32_to_f64_with_nan(self.sum);
         let bound = 151.0 * std::num::f32_to_f64_with_nan(weight);
@@ -134,7 +100,7 @@ impl Average {
     {
         let leak = floats::pick(self.left == 0, LEAK, 1.0);
         Average {
-            left: less(self.left, FRAME),
+            left: self.left.saturating_sub(FRAME),
             sum: self.sum * leak + rms * weight,
             weight: self.weight * leak + weight,
         }
@@ -188,32 +154,33 @@ fn fresh(settings: Settings, threshold: u32, initial: f32) -> Estimator
 impl Estimator {
     // A new estimator. Settings out of their ranges and a threshold that is not from 1 to the largest are
     // refused with 4.
-    pub fn new(settings: Settings, threshold: u32) -> Next
-        ensures { result ≡ made settings threshold }
+    #[tactic(auto, unfolding(crate::specs::Calls::made, units::specs::Handed::handed, units::specs::Replies::refusal))]
+    pub fn new(settings: Settings, threshold: u32) -> Result<Estimator, Refusal>
+        ensures { result ≡ handed (made settings threshold).reply (made settings threshold).estimator }
     {
         let ok = settings.accepted() & units::settings::is_threshold(threshold);
-        let reply = refusal(true, ok, true, true);
-        if ok {
-            let initial = starting_level(settings);
-            let estimator = fresh(settings, threshold, initial);
-            Next { reply, estimator }
-        } else {
-            let unset = Settings::unset();
-            let preliminary = Average::none();
-            let reliable = Average::none();
-            Next {
-                reply,
-                estimator: Estimator {
-                    settings: unset,
-                    threshold: 0,
-                    initial: 0.0,
-                    preliminary,
-                    reliable,
-                    level: 0.0,
-                    confident: false,
-                    count: 0,
-                },
-            }
+        check(true, ok, true, true)?;
+        let initial = starting_level(settings);
+        Ok(fresh(settings, threshold, initial))
+    }
+
+    // All 0 and false: what stands where there is no estimator. It passes no test.
+    #[tactic(auto, unfolding(crate::specs::Estimator::nothing))]
+    pub fn none() -> Estimator
+        ensures { result ≡ nothing }
+    {
+        let settings = Settings::unset();
+        let preliminary = Average::none();
+        let reliable = Average::none();
+        Estimator {
+            settings,
+            threshold: 0,
+            initial: 0.0,
+            preliminary,
+            reliable,
+            level: 0.0,
+            confident: false,
+            count: 0,
         }
     }
 
@@ -234,24 +201,26 @@ impl Estimator {
             & reliable.passes()
     }
 
+    // The state itself, where it passes; otherwise it is refused with 4.
+    #[tactic(auto, unfolding(units::specs::Handed::handed, units::specs::Replies::refusal))]
+    fn passed(self) -> Result<Estimator, Refusal>
+        ensures { result ≡ handed (refusal true (passes_estimator self) true true) self }
+    {
+        check(true, self.passes(), true, true)?;
+        Ok(self)
+    }
+
     // Takes a frame's level and its probability, which is its weight. A speech frame advances the
     // preliminary state, and from the threshold on the level is published; any other frame keeps the run
-    // or throws it away. Refused with 4 or 2, and then nothing changes.
-    pub fn update(self, rms: Dbfs, probability: f32) -> Next
-        ensures { result ≡ stepped self rms.0 probability }
+    // or throws it away. Refused with 4 or 2.
+    #[tactic(auto, unfolding(crate::specs::Calls::stepped, units::specs::Handed::handed, units::specs::Replies::refusal))]
+    pub fn update(self, rms: Dbfs, probability: f32) -> Result<Estimator, Refusal>
+        ensures { result ≡ handed (stepped self rms.0 probability).reply (stepped self rms.0 probability).estimator }
     {
         let ok = self.passes();
         let figures = units::figures::is_rms(rms) & units::figures::is_probability(probability);
-        let reply = refusal(true, ok, figures, true);
-        if ok & figures {
-            let estimator = self.updated(rms.0, probability);
-            Next { reply, estimator }
-        } else {
-            Next {
-                reply,
-                estimator: self,
-            }
-        }
+        check(true, ok, figures, true)?;
+        Ok(self.updated(rms.0, probability))
     }
 
     // The estimator after a frame.
@@ -265,9 +234,9 @@ impl Estimator {
         let speech = runs::is_speech(probability);
         let turn = runs::step(speech, threshold, self.count);
         let more = before.advanced(rms, probability);
-        let back = pick_average(turn.throw, trusted, before);
-        let preliminary = pick_average(speech, more, back);
-        let reliable = pick_average(turn.keep, before, trusted);
+        let back = floats::pick(turn.throw, trusted, before);
+        let preliminary = floats::pick(speech, more, back);
+        let reliable = floats::pick(turn.keep, before, trusted);
         let level = floats::pick(turn.publish, preliminary.level(), self.level);
         let confident = is_trusted(threshold, turn.count, preliminary.left, reliable.left);
         Estimator {
@@ -284,23 +253,11 @@ impl Estimator {
 
     // Marks a gap: frames were lost, so that those before it and after it are not adjacent. It ends the run as
     // a frame that is not speech does, and publishes nothing. A state that fails its test is refused with 4.
-    pub fn gap(self) -> Next
-        ensures { result ≡ gap self }
+    #[tactic(auto, unfolding(crate::specs::Calls::gap, units::specs::Handed::handed, units::specs::Replies::refusal))]
+    pub fn gap(self) -> Result<Estimator, Refusal>
+        ensures { result ≡ handed (gap self).reply (gap self).estimator }
     {
-        let ok = self.passes();
-        let reply = refusal(true, ok, true, true);
-        if ok {
-            let after = self.interrupted();
-            Next {
-                reply,
-                estimator: after,
-            }
-        } else {
-            Next {
-                reply,
-                estimator: self,
-            }
-        }
+        Ok(self.passed()?.interrupted())
     }
 
     // The estimator after a gap.
@@ -312,8 +269,8 @@ impl Estimator {
         let before = self.preliminary;
         let trusted = self.reliable;
         let ended = runs::step(false, threshold, self.count);
-        let preliminary = pick_average(ended.throw, trusted, before);
-        let reliable = pick_average(ended.keep, before, trusted);
+        let preliminary = floats::pick(ended.throw, trusted, before);
+        let reliable = floats::pick(ended.keep, before, trusted);
         let confident = is_trusted(threshold, ended.count, preliminary.left, reliable.left);
         Estimator {
             settings,
@@ -328,42 +285,27 @@ impl Estimator {
     }
 
     // The estimator at its start again. A state that fails its test is refused with 4.
-    pub fn reset(self) -> Next
-        ensures { result ≡ restarted self }
+    #[tactic(auto, unfolding(crate::specs::Calls::restarted, units::specs::Handed::handed, units::specs::Replies::refusal))]
+    pub fn reset(self) -> Result<Estimator, Refusal>
+        ensures { result ≡ handed (restarted self).reply (restarted self).estimator }
     {
-        let ok = self.passes();
-        let reply = refusal(true, ok, true, true);
-        if ok {
-            let settings = self.settings;
-            let estimator = fresh(settings, self.threshold, self.initial);
-            Next { reply, estimator }
-        } else {
-            Next {
-                reply,
-                estimator: self,
-            }
-        }
+        let before = self.passed()?;
+        Ok(fresh(before.settings, before.threshold, before.initial))
     }
 
     // The published level. A state that fails its test is refused with 4.
-    pub fn level_dbfs(self) -> Level
-        ensures { result ≡ level_told self }
+    #[tactic(auto, unfolding(crate::specs::Calls::level_told, units::specs::Handed::handed, units::specs::Replies::refusal))]
+    pub fn level_dbfs(self) -> Result<Dbfs, Refusal>
+        ensures { result ≡ handed (level_told self).reply (level_told self).level }
     {
-        let ok = self.passes();
-        Level {
-            reply: refusal(true, ok, true, true),
-            level: Dbfs(floats::pick(ok, self.level, 0.0)),
-        }
+        Ok(Dbfs(self.passed()?.level))
     }
 
     // Whether the published level is trusted. A state that fails its test is refused with 4.
-    pub fn is_confident(self) -> Confidence
-        ensures { result ≡ confidence_told self }
+    #[tactic(auto, unfolding(crate::specs::Calls::confidence_told, units::specs::Handed::handed, units::specs::Replies::refusal))]
+    pub fn is_confident(self) -> Result<bool, Refusal>
+        ensures { result ≡ handed (confidence_told self).reply (confidence_told self).confident }
     {
-        let ok = self.passes();
-        Confidence {
-            reply: refusal(true, ok, true, true),
-            confident: ok & self.confident,
-        }
+        Ok(self.passed()?.confident)
     }
 }

@@ -8,7 +8,7 @@ use Rattle.std.specs.Float.Ieee.{fits, of_bits, le, lt, eq}
 use Rattle.units.specs.Replies.{done, refusal}
 use Rattle.runs.specs.Runs.{speech, framed, published}
 use Rattle.speech_level_estimator.specs.Calls.{figures, stepped, gap}
-use Rattle.speech_level_estimator.specs.declared.Next.{Next}
+use Rattle.speech_level_estimator.specs.Calls.{Next}
 use Rattle.speech_level_estimator.specs.Estimator.{passes, updated, interrupted}
 use Rattle.speech_level_estimator.specs.Held.{HeldEstimator}
 use Rattle.speech_level_estimator.specs.Laws.Again.{stepped_passes, stepped_held}

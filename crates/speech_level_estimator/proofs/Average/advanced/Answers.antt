@@ -4,4 +4,4 @@ use Rattle.speech_level_estimator.proofs.Average.advanced.Goals as goal
 
 pub returns : goal.returns
 unfolding advanced
-returns c = rw (c.less.ensures, c.pick-leak.ensures)
+returns c = rw (c.saturating_sub.ensures, c.pick-leak.ensures)

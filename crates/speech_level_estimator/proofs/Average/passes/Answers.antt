@@ -10,5 +10,5 @@ returns c =
     let a = b.args.self in
     let f : T (fits binary32 a.sum) = search rules in
     let g : T (fits binary32 a.weight) = search rules in
-    rw (b.nearest_u32_to_f32-most.ensures, b.less.ensures, b.f32_to_f64_with_nan-sum.ensures, b.f32_to_f64_with_nan-bound.ensures)
+    rw (b.nearest_u32_to_f32-most.ensures, b.saturating_sub.ensures, b.f32_to_f64_with_nan-sum.ensures, b.f32_to_f64_with_nan-bound.ensures)
     (passes_exact a (record { sum = f; weight = g }))

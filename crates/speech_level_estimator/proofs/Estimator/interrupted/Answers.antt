@@ -7,4 +7,4 @@ pub returns : goal.returns
 unfolding interrupted closed turned
 returns c =
     let two = c in
-    rw (c.is_trusted-confident.ensures, two.pick_average-reliable.ensures, two.pick_average-preliminary.ensures, two.step-ended.ensures)
+    rw (c.is_trusted-confident.ensures, two.pick-reliable.ensures, two.pick-preliminary.ensures, two.step-ended.ensures)

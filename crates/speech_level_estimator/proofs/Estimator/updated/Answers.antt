@@ -37,9 +37,9 @@ returns c =
     let p = c in
     let t = p in
     let a = t.args in
-    built a.self a.rms a.probability t.step-turn.result p.pick_average-preliminary.result c.pick_average-reliable.result c.pick-level.result c.is_trusted-confident.result
+    built a.self a.rms a.probability t.step-turn.result p.pick-preliminary.result c.pick-reliable.result c.pick-level.result c.is_trusted-confident.result
     (rw (t.step-turn.ensures, t.is_speech-speech.ensures))
-    (rw (p.pick_average-preliminary.ensures, t.is_speech-speech.ensures, p.advanced-more.ensures, p.pick_average-back.ensures))
-    c.pick_average-reliable.ensures
+    (rw (p.pick-preliminary.ensures, t.is_speech-speech.ensures, p.advanced-more.ensures, p.pick-back.ensures))
+    c.pick-reliable.ensures
     (rw (c.pick-level.ensures, c.level.ensures))
     c.is_trusted-confident.ensures
