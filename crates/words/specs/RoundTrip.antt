@@ -4,8 +4,7 @@ use Rattle.std.specs.Prelude.{◌≡◌, refl, Bool, true, false, ℕ, ◌+◌, 
 use Rattle.std.proofs.Common.{ap, arith, lt-ltb, le-ltb, le-leb, ltb-true, ltb-false}
 use Rattle.std.proofs.lemmas.Bool.{lt-leb}
 use Rattle.io.specs.Digits.{hex_digit_ascii, last_digits}
-use Rattle.words.specs.Hex.{digit_of, half_at, word_at}
-use Rattle.words.specs.declared.Digit.{Digit}
+use Rattle.words.specs.Hex.{Digit, digit_of, half_at, word_at}
 
 -- a digit that is worth v
 abbrev worth : ℕ → Digit

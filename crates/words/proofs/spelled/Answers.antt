@@ -1,26 +1,25 @@
--- `words::spelled` meets its contract: each digit is what `glyph` ensures. Assumes nothing.
-use mathlib.Core.List.{List, [], ◌∷◌}
-use mathlib.Core.Path.{◌≡◌}
-use Prim.Native.Nat.{ℕ, ◌/◌, ◌%◌}
+-- `words::spelled` meets its contract. Assumes nothing.
+use Rattle.std.proofs.Common.{◌≡◌, ℕ, suc, List, [], ◌∷◌, ◌++◌, ◌-◌, ◌/◌, ◌%◌, ◌+◌, ◌<◌, drop, set, length, length-set, append_assoc, arith, sym, ◌∙◌, ap}
+use Rattle.std.proofs.Common.{drop-cons, get_or-set_same, drop-set-lt}
 use Rattle.io.specs.Digits.{hex_digit_ascii, last_digits}
 use Rattle.words.proofs.spelled.Goals as goal
 
--- eight of them, the last of them worth the least
-eight : (n : ℕ) {a b c d e f g h : ℕ}
-    → a ≡ hex_digit_ascii (n / 16 / 16 / 16 / 16 / 16 / 16 / 16 % 16)
-    → b ≡ hex_digit_ascii (n / 16 / 16 / 16 / 16 / 16 / 16 % 16)
-    → c ≡ hex_digit_ascii (n / 16 / 16 / 16 / 16 / 16 % 16)
-    → d ≡ hex_digit_ascii (n / 16 / 16 / 16 / 16 % 16)
-    → e ≡ hex_digit_ascii (n / 16 / 16 / 16 % 16)
-    → f ≡ hex_digit_ascii (n / 16 / 16 % 16)
-    → g ≡ hex_digit_ascii (n / 16 % 16)
-    → h ≡ hex_digit_ascii (n % 16)
-    → ◌≡◌ {A = List ℕ} (a ∷ b ∷ c ∷ d ∷ e ∷ f ∷ g ∷ h ∷ []) (last_digits 16 8 n)
-eight n p q r s t u v w = rw (p, q, r, s, t, u, v, w)
+-- a digit more, in front of those that stand
+one_more : (j n : ℕ) (xs : List ℕ) (v : ℕ) → j < length xs → v ≡ hex_digit_ascii (n % 16)
+    → last_digits 16 j (n / 16) ++ drop j (set xs j v) ≡ last_digits 16 (suc j) n ++ drop (suc j) xs
+one_more j n xs v h e =
+    let i : j < length (set xs j v) = simp length-set h in
+    rw (drop-cons (set xs j v) j 0 i, get_or-set_same xs j v 0 h, drop-set-lt (suc j) xs j v (omega arith), e) (sym (append_assoc (last_digits 16 j (n / 16)) (hex_digit_ascii (n % 16) ∷ []) (drop (suc j) xs)))
 
-pub returns : goal.returns
-returns c =
-    let five = c in
-    let one = five in
-    eight one.args.bits one.glyph.ensures five.glyph-2.ensures five.glyph-3.ensures five.glyph-4.ensures
-    five.glyph-5.ensures c.glyph-6.ensures c.glyph-7.ensures c.glyph-8.ensures
+pub loop-i-preserved : goal.loop-i-preserved
+loop-i-preserved c = record {
+  long = length-set _ _ _ ∙ c.loop-i.invariant.long;
+  stands =
+      let i = c.loop-i.i in
+      let down : 8 - (i + 1) ≡ 7 - i = omega arith in
+      let up : suc (7 - i) ≡ 8 - i = omega arith in
+      rw down
+      (one_more (7 - i) c.loop-i.rest c.loop-i.digits c.glyph.result (omega (arith, c.loop-i.invariant.long)) c.glyph.ensures
+      ∙ ap (λ (k : ℕ). last_digits 16 k c.loop-i.rest ++ drop k c.loop-i.digits) up
+      ∙ c.loop-i.invariant.stands);
+}
