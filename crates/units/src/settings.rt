@@ -10,7 +10,7 @@ pub const LARGEST_THRESHOLD: u32 = 3000;
 
 // The Rust's AdaptiveDigitalConfig.
 #[repr(C)]
-#[derive(Clone, Copy)]
+#[derive(Clone, Copy, PartialEq)]
 pub struct Settings {
     // How far below full scale a reading is to end: `headroom_db`.
     pub headroom: Db,
