@@ -1,11 +1,10 @@
 -- The ring that the code keeps, of a capacity that is a field of it. Definitions only.
-use Rattle.std.specs.Prelude.{Bool, ◌&&◌, List, [], ◌∷◌, ℕ, leb, ltb, Float, set, replicate}
+use Rattle.std.specs.Prelude.{Bool, ◌&&◌, List, [], ◌∷◌, ℕ, leb, ltb, Float, set, replicate, Option, None, Some}
 use Rattle.std.specs.Float.{binary32}
 use Rattle.std.specs.Float.Ieee.{of_bits}
+use Rattle.units.specs.declared.kinds.Dbfs.{Dbfs}
 use Rattle.saturation_protector_buffer.specs.Rings as Rings
 use Rattle.saturation_protector_buffer.specs.declared.Ring.{Ring}
-use Rattle.saturation_protector_buffer.specs.declared.Front.{Front}
-use Rattle.saturation_protector_buffer.specs.declared.Front.TheVariants.{None, Oldest}
 
 -- ---- the capacity
 -- "Let the peak ring hold 1 to 16 entries": the storage has a slot for each entry of the largest ring
@@ -59,11 +58,11 @@ unfoldable pub reset : Ring → Ring
 reset r = record { stored = r.stored; capacity = r.capacity; place = 0; size = 0 }
 
 -- ---- the front
--- The paper's number and values of each case of `Front`: none has the number 0 and no value, the oldest the number 1 and its peak.
+-- The paper's number and values of each case of the front: none has the number 0 and no value, the oldest the number 1 and its peak.
 pub record Said : Type 0 where
   pub number : ℕ
   pub values : List Float
 
-unfoldable pub said : Front → Said
+unfoldable pub said : Option Dbfs → Said
 said None = record { number = 0; values = [] }
-said (Oldest x) = record { number = 1; values = x.0 ∷ [] }
+said (Some x) = record { number = 1; values = x.0 ∷ [] }

@@ -3,14 +3,17 @@
 
 #![tactic(auto)]
 
-ghost use Rattle.std.specs.Prelude.{◌≡◌, ◌<◌, ◌≤◌};
+ghost use Rattle.std.specs.Prelude.{◌≡◌, ◌<◌, ◌≤◌, true, get_or};
+ghost use Rattle.std.specs.Float.{nan};
+ghost use Rattle.units.specs.Replies.{refusal};
+ghost use Rattle.units.specs.Handed.{handed};
 ghost use Rattle.saturation_protector_buffer.specs.Rings.{slots, all_finite, start, same_items};
-ghost use Rattle.saturation_protector_buffer.specs.Ring.{largest, usual, is_capacity, fits, passes, push, items, said};
+ghost use Rattle.saturation_protector_buffer.specs.Ring.{largest, usual, is_capacity, empty, fits, passes, push, items, said};
 ghost use Rattle.saturation_protector_buffer.specs.Calls.{made, pushed, told, oldest, fronted, sized, held, forgotten, compared};
-ghost use Rattle.saturation_protector_buffer.specs.Steps.{Within, round};
+ghost use Rattle.saturation_protector_buffer.specs.Steps.{Within};
 
 use units::kinds::Dbfs;
-use units::replies::refusal;
+use units::refusals::{Refusal, check};
 
 // How many slots the storage of a ring has: one for each peak of the largest ring.
 pub const STORAGE: usize = 16;
@@ -33,49 +36,6 @@ pub struct Ring {
     pub size: u32,
 }
 
-// The oldest peak, if there is one: the Rust's `Option<f32>`.
-#[derive(Clone, Copy)]
-pub enum Front {
-    None,
-    Oldest(Dbfs),
-}
-
-// A reply's number, and the ring that goes on from there: the one that came in where it is refused, and all 0 where
-// it is a new one.
-#[derive(Clone, Copy)]
-pub struct Next {
-    pub reply: u32,
-    pub ring: Ring,
-}
-
-// A reply's number, and the oldest peak: none where it is refused.
-#[derive(Clone, Copy)]
-pub struct Found {
-    pub reply: u32,
-    pub front: Front,
-}
-
-// A reply's number, and how many peaks there are: 0 where it is refused.
-#[derive(Clone, Copy)]
-pub struct Counted {
-    pub reply: u32,
-    pub size: usize,
-}
-
-// A reply's number, and how many peaks the ring can hold: 0 where it is refused.
-#[derive(Clone, Copy)]
-pub struct Held {
-    pub reply: u32,
-    pub capacity: u32,
-}
-
-// A reply's number, and whether two rings hold the same peaks: not, where it is refused.
-#[derive(Clone, Copy)]
-pub struct Compared {
-    pub reply: u32,
-    pub equal: bool,
-}
-
 // The capacity of a ring where none is asked for.
 pub fn usual_capacity() -> u32
     ensures { result ≡ usual }
@@ -84,6 +44,7 @@ pub fn usual_capacity() -> u32
 }
 
 // Whether a ring can have this capacity: 1 to 16.
+#[tactic(auto, unfolding(crate::specs::Ring::is_capacity))]
 pub fn is_capacity(n: u32) -> bool
     ensures { result ≡ is_capacity n }
 {
@@ -92,23 +53,36 @@ pub fn is_capacity(n: u32) -> bool
 
 impl Ring {
     // An empty ring that can hold so many peaks. A capacity that is not from 1 to 16 is refused with 4.
-    pub fn new(capacity: u32) -> Next
-        ensures { result ≡ made capacity }
+    pub fn new(capacity: u32) -> Result<Ring, Refusal>
+        ensures { result ≡ handed (made capacity).reply (made capacity).ring }
     {
-        let ok = is_capacity(capacity);
-        Next {
-            reply: refusal(true, ok, true, true),
-            ring: Ring {
-                stored: [0.0; STORAGE],
-                capacity: floats::pick(ok, capacity, 0),
-                place: 0,
-                size: 0,
-            },
+        check(true, is_capacity(capacity), true, true)?;
+        Ok(Ring::empty(capacity))
+    }
+
+    // All 0, which is no ring: what stands where a ring was refused.
+    pub fn none() -> Ring
+        ensures { result ≡ empty 0 }
+    {
+        Ring::empty(0)
+    }
+
+    // Without peaks, of a capacity, and all slots 0.
+    #[tactic(auto, unfolding(crate::specs::Ring::empty))]
+    fn empty(capacity: u32) -> Ring
+        ensures { result ≡ empty capacity }
+    {
+        Ring {
+            stored: [0.0; STORAGE],
+            capacity,
+            place: 0,
+            size: 0,
         }
     }
 
     // Whether a ring's numbers fit each other: a capacity from 1 to 16, a place below it and a size up to it. What is
     // stored is not looked at.
+    #[tactic(auto, unfolding(crate::specs::Ring::fits))]
     pub fn fits(self) -> bool
         ensures { result ≡ fits self }
     {
@@ -120,29 +94,33 @@ impl Ring {
     pub fn passes(self) -> bool
         ensures { result ≡ passes self }
     {
-        if self.fits() {
-            let stored = self.stored;
-            are_finite(stored, self.capacity as usize)
-        } else {
-            false
-        }
+        self.fits() && are_finite(self.slots())
+    }
+
+    // The slots of the ring: those below its capacity.
+    fn slots(&self) -> &[f32]
+        requires { self.now.capacity ≤ largest }
+        ensures { result.now ≡ slots self.now.capacity self.now.stored }
+    {
+        &self.stored[..self.capacity as usize]
+    }
+
+    // The ring itself. One that fails its test is refused with 4.
+    fn checked(self) -> Result<Ring, Refusal>
+        ensures { result ≡ handed (refusal true (passes self) true true) self }
+    {
+        check(true, self.passes(), true, true)?;
+        Ok(self)
     }
 
     // The ring with one peak more, at the cost of the oldest where it is full. A peak that is not
     // finite is refused with 2, after a ring that fails its test, with 4.
-    pub fn push_back(self, peak: Dbfs) -> Next
-        ensures { result ≡ pushed self peak.0 }
+    pub fn push_back(self, peak: Dbfs) -> Result<Ring, Refusal>
+        ensures { result ≡ handed (pushed self peak.0).reply (pushed self peak.0).ring }
     {
         let v = peak.0;
-        let ok = self.passes();
-        let figure = floats::is_finite(v);
-        let reply = refusal(true, ok, figure, true);
-        if ok & figure {
-            let ring = self.store(v);
-            Next { reply, ring }
-        } else {
-            Next { reply, ring: self }
-        }
+        check(true, self.passes(), floats::is_finite(v), true)?;
+        Ok(self.store(v))
     }
 
     // The Rust's push_back: the peak stored at the place, the place after it round the ring, and one
@@ -157,50 +135,37 @@ impl Ring {
         let size = self.size;
         stored[place] = v;
         let after = self.place + 1;
-        let next = floats::pick(after == capacity, 0, after);
-        let more = floats::pick(size < capacity, size + 1, size);
         Ring {
             stored,
             capacity,
-            place: next,
-            size: more,
+            place: floats::pick(after == capacity, 0, after),
+            size: floats::pick(size < capacity, size + 1, size),
         }
     }
 
     // The oldest peak, or none. A ring that fails its test is refused with 4.
-    pub fn front(self) -> Found
+    pub fn front(self) -> Result<Option<Dbfs>, Refusal>
         ensures { told result ≡ fronted self }
     {
-        let ok = self.passes();
-        let reply = refusal(true, ok, true, true);
-        if ok {
-            let front = self.oldest();
-            Found { reply, front }
-        } else {
-            Found {
-                reply,
-                front: Front::None,
-            }
-        }
+        Ok(self.checked()?.oldest())
     }
 
     // The Rust's front: none where there is no peak, otherwise what is stored at the front index.
-    fn oldest(self) -> Front
+    fn oldest(self) -> Option<Dbfs>
         requires { Within self }
         ensures { said result ≡ oldest (items self) }
     {
-        let stored = self.stored;
-        let size = self.size;
         let first = self.front_index();
-        if 0 < size {
-            Front::Oldest(Dbfs(stored[first]))
+        if 0 < self.size {
+            Some(Dbfs(self.stored[first]))
         } else {
-            Front::None
+            None
         }
     }
 
     // Where the oldest peak is stored: at the place of the next one where the ring is full, and
     // otherwise at 0.
+    #[tactic(auto, unfolding(crate::specs::Rings::start))]
     fn front_index(self) -> usize
         ensures { result ≡ start self.capacity self.place self.size }
     {
@@ -208,78 +173,59 @@ impl Ring {
     }
 
     // How many peaks there are. A ring that fails its test is refused with 4.
-    pub fn size(self) -> Counted
-        ensures { result ≡ sized self }
+    pub fn size(self) -> Result<usize, Refusal>
+        ensures { result ≡ handed (sized self).reply (sized self).size }
     {
-        let ok = self.passes();
-        Counted {
-            reply: refusal(true, ok, true, true),
-            size: floats::pick(ok, self.size as usize, 0),
-        }
+        Ok(self.checked()?.size as usize)
     }
 
     // How many peaks the ring can hold. A ring that fails its test is refused with 4.
-    pub fn capacity(self) -> Held
-        ensures { result ≡ held self }
+    pub fn capacity(self) -> Result<u32, Refusal>
+        ensures { result ≡ handed (held self).reply (held self).capacity }
     {
-        let ok = self.passes();
-        Held {
-            reply: refusal(true, ok, true, true),
-            capacity: floats::pick(ok, self.capacity, 0),
-        }
+        Ok(self.checked()?.capacity)
     }
 
     // The ring without its peaks, but with its storage as it is. A ring that fails its test is
     // refused with 4.
-    pub fn reset(self) -> Next
-        ensures { result ≡ forgotten self }
+    pub fn reset(self) -> Result<Ring, Refusal>
+        ensures { result ≡ handed (forgotten self).reply (forgotten self).ring }
     {
-        let stored = self.stored;
-        let capacity = self.capacity;
-        let ok = self.passes();
-        let reply = refusal(true, ok, true, true);
-        let place = floats::pick(ok, 0, self.place);
-        let size = floats::pick(ok, 0, self.size);
-        let ring = Ring {
-            stored,
-            capacity,
-            place,
-            size,
-        };
-        Next { reply, ring }
+        let ring = self.checked()?;
+        Ok(Ring {
+            place: 0,
+            size: 0,
+            ..ring
+        })
     }
 
     // Whether the two hold the same peaks, oldest first, by the float's own equality, whatever their capacities.
     // Where either ring fails its test it is refused with 4.
-    pub fn equals(self, other: Ring) -> Compared
-        ensures { result ≡ compared self other }
+    pub fn equals(self, other: Ring) -> Result<bool, Refusal>
+        ensures { result ≡ handed (compared self other).reply (compared self other).equal }
     {
-        let ok = self.passes() & other.passes();
-        let reply = refusal(true, ok, true, true);
-        if ok {
-            Compared {
-                reply,
-                equal: same_items(self, other),
-            }
-        } else {
-            Compared {
-                reply,
-                equal: false,
-            }
-        }
+        check(true, self.passes() & other.passes(), true, true)?;
+        Ok(same_items(self, other))
+    }
+
+    // The peak of this number, counted from the oldest round the ring.
+    fn peak(&self, i: usize) -> f32
+        requires within { Within self.now }
+        requires there { i < self.now.size }
+        ensures { result ≡ get_or (items self.now) i nan }
+    {
+        let n = self.capacity as usize;
+        self.stored[(self.front_index() + i) % n]
     }
 }
 
-// Whether each of the first n slots is finite. It looks at every one of them, whatever it finds.
-fn are_finite(stored: [f32; STORAGE], n: usize) -> bool
-    requires { n ≤ largest }
-    ensures { result ≡ all_finite (slots n stored) }
+// Whether each of these slots is finite. It looks at every one of them, whatever it finds.
+fn are_finite(slots: &[f32]) -> bool
+    ensures { result ≡ all_finite slots.now }
 {
     let mut ok = true;
-    let mut i = 0;
-    while i < n {
-        ok = ok & floats::is_finite(stored[i]);
-        i += 1;
+    for x in slots {
+        ok &= floats::is_finite(*x);
     }
     ok
 }
@@ -289,38 +235,13 @@ fn same_items(a: Ring, b: Ring) -> bool
     requires { Within a × Within b }
     ensures { result ≡ same_items (items a) (items b) }
 {
-    let xs = a.stored;
-    let ys = b.stored;
-    let n = a.capacity as usize;
-    let m = b.capacity as usize;
-    let from = a.front_index();
-    let other = b.front_index();
-    let size = a.size;
-    if size == b.size {
-        same_from(xs, n, from, ys, m, other, size as usize)
+    if a.size == b.size {
+        let mut same = true;
+        for i in 0..a.size as usize {
+            same &= a.peak(i) == b.peak(i);
+        }
+        same
     } else {
         false
     }
-}
-
-// Whether two storages agree on as many slots, each counted round its ring of n or m from where it starts.
-fn same_from(
-    xs: [f32; STORAGE],
-    n: usize,
-    from: usize,
-    ys: [f32; STORAGE],
-    m: usize,
-    other: usize,
-    size: usize,
-) -> bool
-    requires { (from < n) × (n ≤ largest) × (other < m) × (m ≤ largest) × (size ≤ n) × (size ≤ m) }
-    ensures { result ≡ same_items (round n xs from size) (round m ys other size) }
-{
-    let mut same = true;
-    let mut i = 0;
-    while i < size {
-        same = same & (xs[(from + i) % n] == ys[(other + i) % m]);
-        i += 1;
-    }
-    same
 }

@@ -1,14 +1,8 @@
 -- `saturation_protector_buffer::are_finite` meets its contract. The invariant: what was found so far, and the test of what is left, is the test of the whole.
 -- Assumes nothing.
-use mathlib.Core.Bool.{◌&&◌}
-use mathlib.Core.Path.{◌≡◌}
-use Prim.Native.Nat.{◌≤◌, ◌-◌}
-use lib.ListN.{drop}
-use Rattle.saturation_protector_buffer.specs.Rings.{slots, all_finite}
+use Rattle.std.proofs.Common.{◌≡◌, ◌&&◌, drop}
+use Rattle.saturation_protector_buffer.specs.Rings.{all_finite}
 use Rattle.saturation_protector_buffer.proofs.are_finite.Given as goal
 
-abbrev pub invariant-loop-i : goal.invariant-loop-i
-invariant-loop-i l = (l.i ≤ l.n) × (l.ok && all_finite (drop l.i (slots l.n l.stored)) ≡ all_finite (slots l.n l.stored))
-
-abbrev pub decreases-loop-i : goal.decreases-loop-i
-decreases-loop-i l = l.n - l.i
+abbrev pub invariant-loop-x : goal.invariant-loop-x
+invariant-loop-x l = l.ok && all_finite (drop l.x-index l.slots) ≡ all_finite l.slots

@@ -1,54 +1,61 @@
--- `saturation_protector_buffer::same_items` meets its contract: the items of each ring are its storage round from its front index. Assumes nothing.
-use mathlib.Core.Path.{◌≡◌, sym, ap, ap₂, ◌∙◌}
-use Prim.Native.Nat.{ℕ}
+-- `saturation_protector_buffer::same_items` meets its contract. The invariant: what was found so far, and the comparison of what is left, is the comparison
+-- of the whole. Assumes nothing.
+use mathlib.Core.Bool.{Bool, ◌&&◌, and_assoc, and-true}
+use mathlib.Core.List.{List}
+use mathlib.Core.Path.{◌≡◌, sym, ◌∙◌}
+use Prim.Native.Nat.{ℕ, ◌+◌, ◌≤◌, ◌<◌}
 use native.Mathlib.Omega.{arith}
-use lib.ListN.{length}
+use lib.Ieee.{Float, nan, eq}
+use lib.ListN.{length, drop, get_or, drop_of_length-le}
 use borrow.Author.Rules.{rules}
-use Rattle.saturation_protector_buffer.specs.Rings.{start as front, same_items}
+use Rattle.lists.specs.Stores.{next}
+use Rattle.saturation_protector_buffer.specs.Rings.{same_items}
 use Rattle.saturation_protector_buffer.specs.Ring.{largest, items}
-use Rattle.saturation_protector_buffer.specs.Steps.{round}
-use Rattle.saturation_protector_buffer.specs.Laws.Places.{start_inside, length_items}
+use Rattle.saturation_protector_buffer.specs.Steps.{Within}
+use Rattle.saturation_protector_buffer.specs.declared.Ring.{Ring}
+use Rattle.saturation_protector_buffer.specs.Laws.Places.{length_items}
 use Rattle.saturation_protector_buffer.specs.Laws.Same.{not_as_many}
 use Rattle.saturation_protector_buffer.proofs.same_items.Goals as goal
 
-pub same_from-requires : goal.same_from-requires
-same_from-requires c =
-    let start = c in
-    let a = start.args.a in
-    let b = start.args.b in
-    let p = start.requires.0 in
-    let q = start.requires.1 in (
-      rw c.front_index-from.ensures (start_inside a.capacity a.place a.size p.place p.size),
-      p.capacity,
-      rw c.front_index-other.ensures (start_inside b.capacity b.place b.size q.place q.size),
-      q.capacity,
-      p.size,
-      rw c.if-size-b.true q.size,
-    )
+-- one place more: what is left of two lists begins with what stands at i
+one_more : (b : Bool) (xs ys : List Float) (i : ℕ) → i < length xs → i < length ys
+    → (b && eq (get_or xs i nan) (get_or ys i nan)) && same_items (drop (i + 1) xs) (drop (i + 1) ys) ≡ b && same_items (drop i xs) (drop i ys)
+unfolding same_items
+one_more b xs ys i h k =
+    and_assoc b (eq (get_or xs i nan) (get_or ys i nan)) (same_items (drop (i + 1) xs) (drop (i + 1) ys))
+    ∙ sym (rw (next xs i nan h, next ys i nan k))
 
-pub returns-then-size-b : goal.returns-then-size-b
-unfolding items round
-returns-then-size-b c =
-    let start = c in
-    let a = start.args.a in
-    let b = start.args.b in
-    let n = a.capacity in
-    let m = b.capacity in
-    let two = c in
-    c.same_from.ensures
-    ∙ ap₂ (λ (i j : ℕ). same_items (round n a.stored i a.size) (round m b.stored j a.size)) two.front_index-from.ensures two.front_index-other.ensures
-    ∙ ap (λ (k : ℕ). same_items (items a) (round m b.stored (front m b.place b.size) k)) c.if-size-b.true
+-- nothing is left
+none_left : (b : Bool) (xs ys : List Float) (i : ℕ) → length xs ≤ i → length ys ≤ i → b && same_items (drop i xs) (drop i ys) ≡ b
+unfolding same_items
+none_left b xs ys i h k = rw (drop_of_length-le xs h, drop_of_length-le ys k) (and-true b)
 
-pub returns-else-size-b : goal.returns-else-size-b
+-- a ring has as many items as its size says
+as_many : (r : Ring) → length r.stored ≡ largest → Within r → length (items r) ≡ r.size
 unfolding items
-returns-else-size-b c =
-    let start = c in
-    let a = start.args.a in
-    let b = start.args.b in
-    let p = start.requires.0 in
-    let q = start.requires.1 in
-    let slots-a : length a.stored ≡ largest = search rules in
-    let slots-b : length b.stored ≡ largest = search rules in
-    let as-many-a = length_items a.capacity a.stored a.place a.size (omega (arith, p.capacity)) p.place p.size in
-    let as-many-b = length_items b.capacity b.stored b.place b.size (omega (arith, q.capacity)) q.place q.size in
-    sym (not_as_many (items a) (items b) (λ e. c.if-size-b.false (sym as-many-a ∙ e ∙ as-many-b)))
+as_many r long w = length_items r.capacity r.stored r.place r.size (omega (arith, long, w.capacity)) w.place w.size
+
+pub loop-i-preserved : goal.loop-i-preserved
+loop-i-preserved c =
+    let a = c.args.a in
+    let b = c.args.b in
+    let long-a : length (items a) ≡ a.size = as_many a (search rules) c.requires.0 in
+    let long-b : length (items b) ≡ b.size = as_many b (search rules) c.requires.1 in
+    rw (c.peak.ensures, c.peak-in-loop-i.ensures)
+    (one_more c.loop-i.same (items a) (items b) c.loop-i.i (omega arith) (omega arith) ∙ c.loop-i.invariant)
+
+pub returns-after-loop-i : goal.returns-after-loop-i
+returns-after-loop-i c =
+    let a = c.args.a in
+    let b = c.args.b in
+    let long-a : length (items a) ≡ a.size = as_many a (search rules) c.requires.0 in
+    let long-b : length (items b) ≡ b.size = as_many b (search rules) c.requires.1 in
+    sym (none_left c.loop-i.same (items a) (items b) c.loop-i.i (omega arith) (omega arith)) ∙ c.loop-i.invariant
+
+pub returns-else-a-b : goal.returns-else-a-b
+returns-else-a-b c =
+    let a = c.args.a in
+    let b = c.args.b in
+    let long-a : length (items a) ≡ a.size = as_many a (search rules) c.requires.0 in
+    let long-b : length (items b) ≡ b.size = as_many b (search rules) c.requires.1 in
+    sym (not_as_many (items a) (items b) (λ e. c.if-a-b.false (sym long-a ∙ e ∙ long-b)))

@@ -5,10 +5,9 @@ use Rattle.std.proofs.Common.{ap, ◌∙◌}
 use Rattle.std.specs.Float.Ieee.Scale.{finite}
 use Rattle.units.specs.Replies.{done}
 use Rattle.saturation_protector_buffer.specs.Ring.{empty, passes, push, reset}
-use Rattle.saturation_protector_buffer.specs.Calls.{made, pushed, held, forgotten}
+use Rattle.saturation_protector_buffer.specs.Calls.{Held, made, pushed, held, forgotten}
 use Rattle.saturation_protector_buffer.specs.History.{after_pushes}
 use Rattle.saturation_protector_buffer.specs.declared.Ring.{Ring}
-use Rattle.saturation_protector_buffer.specs.declared.Held.{Held}
 use Rattle.saturation_protector_buffer.specs.Laws.Passing.{made_empty, made_passes}
 
 -- A new ring that is not refused has the capacity asked for, and says so.

@@ -2,12 +2,13 @@
 -- Assumes nothing.
 use Rattle.std.specs.Prelude.{◌≡◌, refl, Bool, true, false, cond, ℕ, eqb, Result, Ok, Err, IfOk, IfErr}
 use Rattle.std.proofs.lemmas.Bool.{eqb-true, eq-eqb, false≢true}
-use Rattle.std.proofs.Common.{sym, ◌∙◌, ap}
+use Rattle.std.proofs.Common.{sym, ◌∙◌, ap, arith}
 use Rattle.std.specs.Result.{IsErrAnd}
 use Rattle.std.proofs.lemmas.Result.{IfOk-at_ok, IfErr-at_err, err_from_is_err_and}
 use Rattle.units.specs.Replies.{done}
-use Rattle.units.specs.Handed.{refusal_of, handed}
+use Rattle.units.specs.Handed.{number_of, refusal_of, handed}
 use Rattle.units.specs.declared.refusals.Refusal.{Refusal}
+use Rattle.units.specs.declared.refusals.Refusal.TheVariants as R
 
 -- ---- a choice between what was made and a refusal
 chosen : {A : Type 0} (b : Bool) (e : Refusal) (made : A) → b ≡ true → cond b (Ok made) (Err e) ≡ Ok made
@@ -59,3 +60,33 @@ passed_by reply made other more h = sym (goes_on reply made other more (sym h))
 -- nothing was refused then
 pub passed_done : {B : Type 0} (reply : ℕ) (made other : B) → Ok other ≡ handed reply made → reply ≡ done
 passed_done reply made other h = (handed_ok reply made other (sym h)).0
+
+-- ---- of a refusal's number
+number_back : (e : Refusal) → refusal_of (number_of e) ≡ e
+unfolding number_of refusal_of
+number_back R.Shape = refl
+number_back R.Figure = refl
+number_back R.Sample = refl
+number_back R.Setting = refl
+number_back R.Cut = refl
+number_back R.Length = refl
+number_back R.Version = refl
+number_back R.Room = refl
+number_back R.Unsaid = refl
+
+-- A refusal's number determines it,
+pub number_one : (d e : Refusal) → number_of d ≡ number_of e → d ≡ e
+number_one d e h = sym (number_back d) ∙ ap refusal_of h ∙ number_back e
+
+-- and none is done.
+pub number_not_done : (e : Refusal) → number_of e ≡ done → ⊥
+unfolding number_of
+number_not_done R.Shape h = absurd (omega arith)
+number_not_done R.Figure h = absurd (omega arith)
+number_not_done R.Sample h = absurd (omega arith)
+number_not_done R.Setting h = absurd (omega arith)
+number_not_done R.Cut h = absurd (omega arith)
+number_not_done R.Length h = absurd (omega arith)
+number_not_done R.Version h = absurd (omega arith)
+number_not_done R.Room h = absurd (omega arith)
+number_not_done R.Unsaid h = absurd (omega arith)

@@ -18,19 +18,19 @@ inside c =
     let below = start_inside r.capacity r.place r.size start.requires.place start.requires.size in
     rw c.front_index-first.ensures (omega (arith, below, start.requires.capacity))
 
-pub offset_bounds-stored-first : goal.offset_bounds-stored-first
-offset_bounds-stored-first c = omega (arith, inside c.before)
+pub offset_bounds-self-first : goal.offset_bounds-self-first
+offset_bounds-self-first c = omega (arith, inside c.before)
 
-pub bounds-stored-first : goal.bounds-stored-first
-bounds-stored-first c = omega (arith, inside c.before)
+pub bounds-self-first : goal.bounds-self-first
+bounds-self-first c = omega (arith, inside c.before)
 
-pub returns-then-size-gt0 : goal.returns-then-size-gt0
+pub returns-then-self-gt0 : goal.returns-then-self-gt0
 unfolding said
-returns-then-size-gt0 c =
+returns-then-self-gt0 c =
     let start = c in
     let slots : length start.args.self.stored ≡ largest = search rules in
     rw c.front_index-first.ensures (sym (oldest_stored start.args.self (omega (arith, start.requires.capacity)) start.requires (omega arith)))
 
-pub returns-else-size-gt0 : goal.returns-else-size-gt0
+pub returns-else-self-gt0 : goal.returns-else-self-gt0
 unfolding said
-returns-else-size-gt0 c = sym (oldest_none c.args.self c.if-size-gt0.false)
+returns-else-self-gt0 c = sym (oldest_none c.args.self c.if-self-gt0.false)

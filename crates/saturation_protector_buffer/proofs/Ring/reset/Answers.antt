@@ -1,20 +1,17 @@
--- `saturation_protector_buffer::Ring::reset` meets its contract: each field is chosen by itself. Assumes nothing.
-use mathlib.Core.Bool.{Bool, true, false, cond}
-use mathlib.Core.Path.{◌≡◌, refl}
-use Rattle.saturation_protector_buffer.specs.Ring.{passes, reset}
+-- `saturation_protector_buffer::Ring::reset` meets its contract. Assumes nothing.
+use mathlib.Core.Path.{refl}
+use Rattle.units.specs.Replies.{refusal}
+use Rattle.units.specs.Handed.{handed}
+use Rattle.units.specs.Laws.Handed.{refused_by}
+use Rattle.saturation_protector_buffer.specs.Ring.{reset}
 use Rattle.saturation_protector_buffer.specs.Calls.{forgotten}
-use Rattle.saturation_protector_buffer.specs.declared.Ring.{Ring}
+use Rattle.saturation_protector_buffer.proofs.Accepted.{accepted}
 use Rattle.saturation_protector_buffer.proofs.Ring.reset.Goals as goal
 
--- a ring whose place and size are chosen is the chosen ring
-chosen : (b : Bool) (r : Ring) → cond b (reset r) r ≡ record { stored = r.stored; capacity = r.capacity; place = cond b 0 r.place; size = cond b 0 r.size }
-unfolding reset
-chosen true r = refl
-chosen false r = refl
+pub returns-in_err-ring : goal.returns-in_err-ring
+unfolding forgotten
+returns-in_err-ring c = refused_by _ _ _ _ _ c.from_residual.ensures.1 c.in_err-ring.ensures
 
 pub returns : goal.returns
-unfolding forgotten
-returns c =
-    let tests = c in
-    let r = tests.args.self in
-    rw (c.pick-size.ensures, c.pick-place.ensures, tests.refusal-reply.ensures, tests.passes-ok.ensures, chosen (passes r) r)
+unfolding forgotten refusal handed reset
+returns c = let k = accepted c.args.self _ c.in_ok-ring.ensures in rw (← k.1, k.0) refl

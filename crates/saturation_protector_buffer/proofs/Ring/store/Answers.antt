@@ -4,4 +4,4 @@ use Rattle.saturation_protector_buffer.proofs.Ring.store.Goals as goal
 
 pub returns : goal.returns
 unfolding push
-returns c = rw (c.pick-more.ensures, c.pick-next.ensures)
+returns c = rw (c.pick-2.ensures, c.pick.ensures)
