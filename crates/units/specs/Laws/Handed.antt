@@ -5,7 +5,7 @@ use Rattle.std.proofs.lemmas.Bool.{eqb-true, eq-eqb, false≢true}
 use Rattle.std.proofs.Common.{sym, ◌∙◌, ap, arith}
 use Rattle.std.specs.Result.{IsErrAnd}
 use Rattle.std.proofs.lemmas.Result.{IfOk-at_ok, IfErr-at_err, err_from_is_err_and}
-use Rattle.units.specs.Replies.{done}
+use Rattle.units.specs.Replies.{done, refusal}
 use Rattle.units.specs.Handed.{number_of, refusal_of, handed}
 use Rattle.units.specs.declared.refusals.Refusal.{Refusal}
 use Rattle.units.specs.declared.refusals.Refusal.TheVariants as R
@@ -90,3 +90,22 @@ number_not_done R.Length h = absurd (omega arith)
 number_not_done R.Version h = absurd (omega arith)
 number_not_done R.Room h = absurd (omega arith)
 number_not_done R.Unsaid h = absurd (omega arith)
+
+-- what refuses is not done
+pub refused_not_done : {A : Type 0} (reply : ℕ) (made : A) (e : Refusal) → Err e ≡ handed reply made → reply ≡ done → ⊥
+refused_not_done reply made e h k = cc (h ∙ handed_done reply made k)
+
+-- the number of a check's refusal is the reply that it gave
+numbered : {A : Type 0} (shape setting figure sample : Bool) (made : A)
+    → IfErr (handed (refusal shape setting figure sample) made) (λ d. number_of d ≡ refusal shape setting figure sample)
+unfolding handed refusal refusal_of number_of
+numbered true true true true made = tt
+numbered true true true false made = refl
+numbered true true false sample made = refl
+numbered true false figure sample made = refl
+numbered false setting figure sample made = refl
+
+pub check_number : {A : Type 0} (shape setting figure sample : Bool) (made : A) (e : Refusal)
+    → Err e ≡ handed (refusal shape setting figure sample) made → number_of e ≡ refusal shape setting figure sample
+check_number shape setting figure sample made e h =
+    IfErr-at_err (λ d. number_of d ≡ refusal shape setting figure sample) (sym h) (numbered shape setting figure sample made)
