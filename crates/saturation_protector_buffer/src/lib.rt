@@ -97,12 +97,11 @@ impl Ring {
         self.fits() && are_finite(self.slots())
     }
 
-    // The slots of the ring: those below its capacity.
-    fn slots(&self) -> &[f32]
-        requires { self.now.capacity ≤ largest }
+    // The slots of the ring: those below its capacity, and all of the storage where the capacity is larger than that.
+    pub fn slots(&self) -> &[f32]
         ensures { result.now ≡ slots self.now.capacity self.now.stored }
     {
-        &self.stored[..self.capacity as usize]
+        &self.stored[..(self.capacity as usize).min(STORAGE)]
     }
 
     // The ring itself. One that fails its test is refused with 4.

