@@ -1,19 +1,20 @@
 -- What each call answers, refusals first. Definitions only.
-use Rattle.std.specs.Prelude.{Bool, true, ◌&&◌, cond, List, [], ◌∷◌, ℕ, ◌+◌, eqb, leb, ltb, length}
+use Rattle.std.specs.Prelude.{Bool, true, ◌&&◌, cond, List, [], ◌∷◌, ℕ, ◌+◌, eqb, leb, ltb, length, Option, None, Some, Result, Ok, Err}
 use Rattle.units.specs.Replies.{done, cut, bad_length, bad_version, refusal}
+use Rattle.units.specs.Handed.{number_of}
 use Rattle.units.specs.Output.{Put, put}
 use Rattle.units.specs.Settings as Settings
 use Rattle.units.specs.Figures as Figure
 use Rattle.units.specs.declared.figures.Figures.{Figures}
+use Rattle.units.specs.declared.refusals.Refusal.{Refusal}
 use Rattle.frames.specs.Shape.{is_samples}
 use Rattle.strip_format.specs.Fields.{size, number_at, fields_at}
-use Rattle.strip_format.specs.Format.{number_of, largest_said, has_gaps, head_fields, head_length, head_of, no_head, head_bytes, record_fields, record_length, figures_of, record_bytes, gap_length, Entry, figures, gap, entry_bytes}
+use Rattle.strip_format.specs.Format as Format
+use Rattle.strip_format.specs.Format.{largest_said, has_gaps, head_fields, head_length, head_of, no_head, head_bytes, record_fields, record_length, figures_of, record_bytes, gap_length, Entry, figures, gap, entry_bytes}
 use Rattle.strip_format.specs.declared.Version.{Version}
 use Rattle.strip_format.specs.declared.Head.{Head}
-use Rattle.strip_format.specs.declared.HeadRead.{HeadRead}
-use Rattle.strip_format.specs.declared.Found.{Found}
-use Rattle.strip_format.specs.declared.Found.TheVariants.{None, Record, Gap}
-use Rattle.strip_format.specs.declared.RecordRead.{RecordRead}
+use Rattle.strip_format.specs.declared.Entry as Code
+use Rattle.strip_format.specs.declared.Entry.TheVariants.{Record, Gap}
 
 -- ---- a head
 -- a threshold that the version can say: from 1 to its largest
@@ -24,6 +25,11 @@ is_threshold v frames = leb 1 frames && leb frames (largest_said v)
 unfoldable pub head_refusal : Head → ℕ
 unfolding refusal is_samples Settings.accepted
 head_refusal h = refusal (is_samples h.samples) (Settings.accepted h.settings && is_threshold h.version h.threshold) true true
+
+-- a reply's number, and the head: version 1 and all 0 where it is refused
+pub record HeadRead : Type 0 where
+  pub reply : ℕ
+  pub head : Head
 
 unfoldable pub refused_head : ℕ → HeadRead
 unfolding no_head
@@ -39,7 +45,7 @@ unfoldable pub read_head : Version → List ℕ → HeadRead
 unfolding refused_head judged_head number_at head_of fields_at
 read_head v strip =
     cond (leb 3 (length strip))
-    (cond (eqb (number_at strip 2 1) (number_of v))
+    (cond (eqb (number_at strip 2 1) (Format.number_of v))
     (cond (eqb (number_at strip 0 2) (head_length v))
     (cond (leb (size (head_fields v)) (length strip)) (judged_head (head_of v (fields_at (head_fields v) strip 0))) (refused_head cut))
     (refused_head bad_length))
@@ -101,27 +107,37 @@ said_of (figures f ∷ es) = record { number = 1; values = f ∷ [] }
 said_of (gap ∷ es) = record { number = 2; values = [] }
 
 -- of the cases that the code has
-abbrev pub said : Found → Said
+abbrev pub said : Option Code.Entry → Said
 said None = said_of []
-said (Record f) = said_of (figures f ∷ [])
-said Gap = said_of (gap ∷ [])
+said (Some (Record f)) = said_of (figures f ∷ [])
+said (Some Gap) = said_of (gap ∷ [])
 
 -- the same as records
-abbrev pub entries_found : Found → List Entry
+abbrev pub entries_found : Option Code.Entry → List Entry
 entries_found None = []
-entries_found (Record f) = figures f ∷ []
-entries_found Gap = gap ∷ []
+entries_found (Some (Record f)) = figures f ∷ []
+entries_found (Some Gap) = gap ∷ []
 
-unfoldable pub read_of : RecordRead → Read
-read_of r = record { reply = r.reply; found = entries_found r.found }
+unfoldable pub read_of : Result (Option Code.Entry) Refusal → Read
+unfolding number_of
+read_of (Ok x) = record { reply = done; found = entries_found x }
+read_of (Err e) = record { reply = number_of e; found = [] }
+
+-- and of a head
+unfoldable pub head_read_of : Result Head Refusal → HeadRead
+unfolding refused_head number_of
+head_read_of (Ok h) = record { reply = done; head = h }
+head_read_of (Err e) = refused_head (number_of e)
 
 -- what an answer says: the reply's number, and what was found
 pub record Told : Type 0 where
   pub reply : ℕ
   pub said : Said
 
-unfoldable pub told : RecordRead → Told
-told r = record { reply = r.reply; said = said r.found }
+unfoldable pub told : Result (Option Code.Entry) Refusal → Told
+unfolding number_of
+told (Ok x) = record { reply = done; said = said x }
+told (Err e) = record { reply = number_of e; said = said_of [] }
 
 unfoldable pub told_of : Read → Told
 told_of r = record { reply = r.reply; said = said_of r.found }

@@ -1,10 +1,13 @@
 -- What the steps of reading and writing answer, on the way to what `Calls` says. Definitions only.
-use Rattle.std.specs.Prelude.{cond, List, [], ◌∷◌, ℕ, ◌+◌, eqb, leb, Float, length}
+use Rattle.std.specs.Prelude.{◌≡◌, cond, List, [], ◌∷◌, ◌++◌, ℕ, ◌+◌, eqb, leb, Float, length, Result, Ok, Err}
 use Rattle.bits.specs.Floats.{pattern_of}
 use Rattle.units.specs.Replies.{done, cut, bad_length, bad_version}
-use Rattle.strip_format.specs.Fields.{size, number_at, written}
-use Rattle.strip_format.specs.Format.{number_of, float_fields, head_fields, head_length, record_fields, record_length}
+use Rattle.strip_format.specs.Fields.{size, big_endian, number_at}
+use Rattle.strip_format.specs.Format.{number_of, head_fields, head_length, record_fields, record_length}
 use Rattle.strip_format.specs.declared.Version.{Version}
+use Rattle.strip_format.specs.declared.Version.TheVariants.{One, Two}
+use Rattle.units.specs.declared.refusals.Refusal.{Refusal}
+use Rattle.units.specs.declared.refusals.Refusal.TheVariants.{Version as Bad}
 
 -- what a strip's head is refused with before its numbers are read: 5 for fewer than 3 bytes, 7, 6, 5
 unfoldable pub head_place : Version → List ℕ → ℕ
@@ -24,7 +27,12 @@ record_place strip at =
     (cond (eqb (number_at strip at 2) record_length) (cond (leb (at + size record_fields) (length strip)) done cut) bad_length)
     cut
 
--- the bytes of five floats
-unfoldable pub five_bytes : Float → Float → Float → Float → Float → List ℕ
-unfolding written pattern_of
-five_bytes a b c d e = written float_fields (pattern_of a ∷ pattern_of b ∷ pattern_of c ∷ pattern_of d ∷ pattern_of e ∷ [])
+-- the bytes of floats, one after the other
+unfoldable pub floats_bytes : List Float → List ℕ
+unfolding big_endian pattern_of
+floats_bytes [] = []
+floats_bytes (x ∷ xs) = big_endian 4 (pattern_of x) ++ floats_bytes xs
+
+-- the version of a number: another than 1 and 2 is refused
+unfoldable pub Says : ℕ → Result Version Refusal → Type 0
+Says n r = r ≡ cond (eqb n 1) (Ok One) (cond (eqb n 2) (Ok Two) (Err Bad))

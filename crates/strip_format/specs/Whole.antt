@@ -4,8 +4,7 @@ use Rattle.units.specs.Replies.{done}
 use Rattle.strip_format.specs.Fields.{size}
 use Rattle.strip_format.specs.Format.{head_fields, Entry, entry_size}
 use Rattle.strip_format.specs.declared.Version.{Version}
-use Rattle.strip_format.specs.Calls.{read_head, read_record}
-use Rattle.strip_format.specs.declared.HeadRead.{HeadRead}
+use Rattle.strip_format.specs.Calls.{HeadRead, read_head, read_record}
 
 -- the records that were read, and the reply's number: done at the strip's end, and otherwise what the next record is refused with
 pub record Entries : Type 0 where

@@ -1,8 +1,7 @@
 -- `strip_format::put_threshold` meets its contract, version by version. Assumes nothing.
-use mathlib.Core.Path.{◌≡◌, ap}
+use mathlib.Core.Path.{◌≡◌}
 use mathlib.Core.List.{List, [], ◌∷◌, ◌++◌}
 use Prim.Native.Nat.{ℕ, ◌+◌, ◌%◌, ◌≤◌}
-use native.Mathlib.Omega.{arith}
 use lib.ListN.{length, set, take, drop}
 use lib.Seq.{sets-eq}
 use Rattle.strip_format.specs.Fields.{big_endian}
@@ -10,12 +9,6 @@ use Rattle.strip_format.specs.Format.{threshold_bytes}
 use Rattle.strip_format.specs.declared.Version.{Version}
 use Rattle.strip_format.specs.declared.Version.TheVariants.{One, Two}
 use Rattle.strip_format.proofs.put_threshold.Goals as goal
-
-pub bounds-out-at : goal.bounds-out-at
-bounds-out-at c = omega (arith, ap threshold_bytes c.in-One.is)
-
-pub put_two-requires : goal.put_two-requires
-put_two-requires c = omega (arith, ap threshold_bytes c.in-Two.is)
 
 in_one : (l : List ℕ) (v : Version) (at n : ℕ) → v ≡ One → at + threshold_bytes v ≤ length l
     → set l at (n % 256) ≡ take at l ++ big_endian (threshold_bytes v) n ++ drop (at + threshold_bytes v) l

@@ -1,29 +1,23 @@
 -- `strip_format::write_record` meets its contract: what is not refused is copied where it fits. Assumes nothing.
-use mathlib.Core.Path.{ap, ◌∙◌}
+use Rattle.std.proofs.Common.{◌∙◌, ap, length}
 use Rattle.strip_format.specs.Format.{record_bytes}
-use Rattle.units.specs.Output.{Put}
 use Rattle.strip_format.specs.Calls.{record_refusal, put_record}
-use Rattle.strip_format.specs.Laws.Steps.{put_taken, put_left}
+use Rattle.strip_format.specs.Laws.Records.{record_length_lem}
+use Rattle.strip_format.proofs.Writing.{left, taken}
 use Rattle.strip_format.proofs.write_record.Goals as goal
 
-pub returns-then-reply-eq-DONE : goal.returns-then-reply-eq-DONE
+pub returns-in_err-check_figures : goal.returns-in_err-check_figures
 unfolding put_record
-returns-then-reply-eq-DONE c =
-    let x = c.args.figures in
-    let same =
-    put_taken (record_refusal x) c.record_refusal-reply.result (record_bytes x) c.record_bytes-bytes.result c.args.out.now c.record_bytes-bytes.ensures
-    c.record_refusal-reply.ensures c.if-reply-eq-DONE.true in
-    record {
-      value = c.copy.ensures.value ∙ ap (λ (p : Put). p.reply) same;
-      out_after = c.copy.ensures.out_after ∙ ap (λ (p : Put). p.out) same;
-    }
+returns-in_err-check_figures c =
+    let f = c.args.figures in
+    let both = left (record_refusal f) 22 (record_bytes f) c.args.out.now _ _ c.from_residual.ensures.1 c.in_err-check_figures.ensures in
+    record { value = both.0; out_after = both.1 }
 
-pub returns-else-reply-eq-DONE : goal.returns-else-reply-eq-DONE
+pub returns : goal.returns
 unfolding put_record
-returns-else-reply-eq-DONE c =
-    let x = c.args.figures in
-    let same = put_left (record_refusal x) c.record_refusal-reply.result (record_bytes x) c.args.out.now c.record_refusal-reply.ensures c.if-reply-eq-DONE.false in
-    record {
-      value = ap (λ (p : Put). p.reply) same;
-      out_after = ap (λ (p : Put). p.out) same;
-    }
+returns c =
+    let f = c.args.figures in
+    let made = c.record_bytes in
+    let both = taken (record_refusal f) 22 (record_bytes f) made.result c.args.out.now c.in_ok-check_figures.ensures made.ensures (ap length made.ensures ∙ record_length_lem f)
+    c.copy.ensures.value c.copy.ensures.out_after in
+    record { value = both.0; out_after = both.1 }

@@ -17,7 +17,7 @@ use Rattle.frames.specs.Shape.{is_samples}
 use Rattle.frames.specs.Facts.{samples_facts}
 use Rattle.strip_format.specs.Fields.{number_at, size, written, fields_at}
 use Rattle.strip_format.specs.Format.{number_of, threshold_bytes, largest_said, version_of, head_fields, head_length, head_numbers, head_of, in_version, head_bytes}
-use Rattle.strip_format.specs.Calls.{is_threshold, head_refusal, refused_head, judged_head, read_head, put_head}
+use Rattle.strip_format.specs.Calls.{HeadRead, is_threshold, head_refusal, refused_head, judged_head, read_head, put_head}
 use Rattle.strip_format.specs.Steps.{head_place}
 use Rattle.strip_format.specs.Laws.Steps.{HeadThere, head_by_place, head_there, head_placed, put_done}
 use Rattle.strip_format.specs.Laws.Fields.{Fits, Bytes, written_length, numbers_back, bytes_back}
@@ -26,7 +26,6 @@ use Rattle.strip_format.specs.Laws.NoNan.{PlainSettings, plain_settings, same_bi
 use Rattle.strip_format.specs.declared.Version.{Version}
 use Rattle.strip_format.specs.declared.Version.TheVariants.{One, Two}
 use Rattle.strip_format.specs.declared.Head.{Head}
-use Rattle.strip_format.specs.declared.HeadRead.{HeadRead}
 
 -- of each version the number is a byte, the head's length fits the two bytes that say it, and the largest threshold fits its own
 record Usable (v : Version) : Type 0 where

@@ -1,14 +1,14 @@
 -- What the promises are worth: each is an equation of the whole answer, so it leaves one outcome. Laws.
 -- Assumes nothing.
-use Rattle.std.specs.Prelude.{◌≡◌, refl, List, [], ◌∷◌, ℕ}
+use Rattle.std.specs.Prelude.{◌≡◌, refl, List, [], ◌∷◌, ℕ, Option, None, Some}
 use Rattle.std.proofs.Common.{ap, arith}
 use Rattle.lists.specs.Promise.{one_outcome}
 use Rattle.units.specs.declared.figures.Figures.{Figures}
 use Rattle.strip_format.specs.Calls.{read_head, read_record, told_of, put_head, put_record, put_gap, Said, said}
 use Rattle.strip_format.specs.declared.Version.{Version}
 use Rattle.strip_format.specs.declared.Head.{Head}
-use Rattle.strip_format.specs.declared.Found.{Found}
-use Rattle.strip_format.specs.declared.Found.TheVariants.{None, Record, Gap}
+use Rattle.strip_format.specs.declared.Entry.{Entry}
+use Rattle.strip_format.specs.declared.Entry.TheVariants.{Record, Gap}
 
 -- whatever two results both are what d says are the same
 abbrev pub Once {ℓ} : {A : Type ℓ} → A → Type ℓ
@@ -24,16 +24,16 @@ abbrev number : Said → ℕ
 number s = s.number
 
 -- Nothing is lost where a place of a strip is told by the paper's number and values.
-pub said_once : (x y : Found) → said x ≡ said y → x ≡ y
+pub said_once : (x y : Option Entry) → said x ≡ said y → x ≡ y
 said_once None None e = refl
-said_once None (Record g) e = absurd (omega (arith, ap number e))
-said_once None Gap e = absurd (omega (arith, ap number e))
-said_once (Record f) None e = absurd (omega (arith, ap number e))
-said_once (Record f) (Record g) e = ap Record (same f g (ap (λ (s : Said). s.values) e))
+said_once None (Some (Record g)) e = absurd (omega (arith, ap number e))
+said_once None (Some Gap) e = absurd (omega (arith, ap number e))
+said_once (Some (Record f)) None e = absurd (omega (arith, ap number e))
+said_once (Some (Record f)) (Some (Record g)) e = ap (λ (h : Figures). Some (Record h)) (same f g (ap (λ (s : Said). s.values) e))
   where
     same : (f g : Figures) → f ∷ [] ≡ g ∷ [] → f ≡ g
     same f g e = cc e
-said_once (Record f) Gap e = absurd (omega (arith, ap number e))
-said_once Gap None e = absurd (omega (arith, ap number e))
-said_once Gap (Record g) e = absurd (omega (arith, ap number e))
-said_once Gap Gap e = refl
+said_once (Some (Record f)) (Some Gap) e = absurd (omega (arith, ap number e))
+said_once (Some Gap) None e = absurd (omega (arith, ap number e))
+said_once (Some Gap) (Some (Record g)) e = absurd (omega (arith, ap number e))
+said_once (Some Gap) (Some Gap) e = refl

@@ -14,7 +14,7 @@ use Rattle.units.specs.declared.figures.Figures.{Figures}
 use Rattle.frames.specs.Shape.{is_samples}
 use Rattle.strip_format.specs.Fields.{size, number_at, fields_at}
 use Rattle.strip_format.specs.Format.{number_of, version_of, head_fields, head_length, head_of, record_fields, record_length, figures_of, Entry, figures, gap, entry_size}
-use Rattle.strip_format.specs.Calls.{Read, is_threshold, head_refusal, record_refusal, refused_head, judged_head, read_head, refused_record, ended, found, judged_record, is_gap, read_record}
+use Rattle.strip_format.specs.Calls.{HeadRead, Read, is_threshold, head_refusal, record_refusal, refused_head, judged_head, read_head, refused_record, ended, found, judged_record, is_gap, read_record}
 use Rattle.strip_format.specs.Laws.Steps.{HeadThere, RecordThere}
 use Rattle.strip_format.specs.Laws.Heads.{head_stood}
 use Rattle.strip_format.specs.Laws.Records.{stood}
@@ -22,7 +22,6 @@ use Rattle.strip_format.specs.Laws.Gaps.{gap_says, gap_stood}
 use Rattle.strip_format.specs.Laws.Refusals.{head_too_short, head_wrong_length, head_other_version, head_judged, record_none, record_gap, record_wrong_length, record_judged, judged_head_reply, judged_record_reply}
 use Rattle.strip_format.specs.declared.Version.{Version}
 use Rattle.strip_format.specs.declared.Head.{Head}
-use Rattle.strip_format.specs.declared.HeadRead.{HeadRead}
 
 -- ---- numbers and fields that lie within the first bytes
 pub number_within : (xs ys : List ℕ) (at w : ℕ) → at + w ≤ length xs → number_at (xs ++ ys) at w ≡ number_at xs at w
