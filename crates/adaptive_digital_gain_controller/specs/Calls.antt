@@ -10,7 +10,11 @@ use Rattle.gain_applier.specs.declared.Applier.{Applier as Gain}
 use Rattle.adaptive_digital_gain_controller.specs.Controller.{accepted, passes, nothing, fresh, decided, interrupted}
 use Rattle.adaptive_digital_gain_controller.specs.declared.Info.{Info}
 use Rattle.adaptive_digital_gain_controller.specs.declared.Controller.{Controller}
-use Rattle.adaptive_digital_gain_controller.specs.declared.Next.{Next}
+
+-- a reply, and the controller that goes on from there: the one that came in where it is refused, and all 0 and false where it is a new one
+pub record Next : Type 0 where
+  pub reply : ℕ
+  pub controller : Controller
 
 -- a new controller: 4 where a setting or the threshold is out of range
 unfoldable pub made : Set → ℕ → Next

@@ -8,10 +8,11 @@ ghost use Rattle.adaptive_digital_gain_controller.specs.Target.{wanted, under_no
 ghost use Rattle.adaptive_digital_gain_controller.specs.Change.{per_frame, waits, increase, changed};
 ghost use Rattle.adaptive_digital_gain_controller.specs.Controller.{accepted, nothing, fresh, aimed, decided, passes, interrupted};
 ghost use Rattle.adaptive_digital_gain_controller.specs.Calls.{made, processed, gap};
+ghost use Rattle.units.specs.Handed.{handed};
 
 use gain_applier::Applier;
 use units::kinds::{Db, Dbfs};
-use units::replies::{DONE, refusal};
+use units::refusals::{Refusal, check};
 use units::settings::Settings;
 
 // The limiter's envelope above which a gain that is not trusted is lowered.
@@ -42,14 +43,6 @@ pub struct Controller {
     pub change: f32,
     pub waiting: u32,
     pub gain: f32,
-}
-
-// A reply's number, and the controller that goes on from there: the one that came in where it is refused,
-// and all 0 and false where it is a new one.
-#[derive(Clone, Copy)]
-pub struct Next {
-    pub reply: u32,
-    pub controller: Controller,
 }
 
 // The gain that brings a level to the headroom below full scale, from 0 to the largest gain.
@@ -143,56 +136,53 @@ fn aimed(applier: Applier, change: f32, gain: f32) -> Applier
     ensures { result ≡ aimed applier change gain }
 {
     if change != 0.0 {
-        let ratio = decibels::ratio(Db(gain));
-        let next = applier.set_gain_factor(ratio.ratio);
-        let after = next.applier;
-        after
+        // A gain that has no ratio and an applier that fails its test leave the applier as it was.
+        match decibels::ratio(Db(gain)) {
+            Ok(ratio) => applier.set_gain_factor(ratio).unwrap_or(applier),
+            Err(_) => applier,
+        }
     } else {
         applier
     }
 }
 
 impl Controller {
+    // All 0 and false: what stands where there is no controller. It passes no test.
+    #[tactic(auto, unfolding(crate::specs::Controller::nothing))]
+    pub fn none() -> Controller
+        ensures { result ≡ nothing }
+    {
+        let applier = Applier::none();
+        let settings = Settings::unset();
+        Controller {
+            applier,
+            settings,
+            threshold: 0,
+            change: 0.0,
+            waiting: 0,
+            gain: 0.0,
+        }
+    }
+
     // A new controller at its initial gain. Settings out of their ranges and a threshold that is not from
     // 1 to the largest are refused with 4.
-    pub fn new(settings: Settings, threshold: u32) -> Next
-        ensures { result ≡ made settings threshold }
+    pub fn new(settings: Settings, threshold: u32) -> Result<Controller, Refusal>
+        ensures { result ≡ handed (made settings threshold).reply (made settings threshold).controller }
     {
         let ok = settings.accepted() & units::settings::is_threshold(threshold);
-        let reply = refusal(true, ok, true, true);
-        if ok {
-            let initial = settings.initial.0;
-            let ratio = decibels::ratio(Db(initial));
-            let next = Applier::new(false, ratio.ratio);
-            let applier = next.applier;
-            Next {
-                reply,
-                controller: Controller {
-                    applier,
-                    settings,
-                    threshold,
-                    change: per_frame(settings.change),
-                    waiting: threshold,
-                    gain: initial,
-                },
-            }
-        } else {
-            let unset = Settings::unset();
-            // A factor of 0 is refused, and leaves an applier that is all 0 and false.
-            let next = Applier::new(false, 0.0);
-            let applier = next.applier;
-            Next {
-                reply,
-                controller: Controller {
-                    applier,
-                    settings: unset,
-                    threshold: 0,
-                    change: 0.0,
-                    waiting: 0,
-                    gain: 0.0,
-                },
-            }
-        }
+        check(true, ok, true, true)?;
+        let initial = settings.initial.0;
+        // An initial gain that is accepted has a ratio, and the ratio is a gain factor.
+        let ratio = decibels::ratio(Db(initial))?;
+        let applier = Applier::new(false, ratio)?;
+        Ok(Controller {
+            applier,
+            settings,
+            threshold,
+            change: per_frame(settings.change),
+            waiting: threshold,
+            gain: initial,
+        })
     }
 
     // Whether a handed-in state passes: settings and threshold in their ranges, the change of a frame that
@@ -217,99 +207,64 @@ impl Controller {
     fn decided(self, info: Info) -> Controller
         ensures { result ≡ decided self info }
     {
-        let settings = self.settings;
-        let before = self.applier;
         let threshold = self.threshold;
         let speech = runs::is_speech(info.probability);
         let waiting = waits(speech, threshold, self.waiting);
         let allowed = waiting == 0;
         let rise = increase(allowed & (0 < self.waiting), threshold, self.change);
-        let goal = target(settings, self.gain, info);
+        let goal = target(self.settings, self.gain, info);
         let change = changed(goal, self.gain, allowed, self.change, rise);
         let gain = self.gain + change;
-        let applier = aimed(before, change, gain);
+        let applier = aimed(self.applier, change, gain);
         Controller {
             applier,
-            settings,
-            threshold,
-            change: self.change,
             waiting,
             gain,
+            ..self
         }
     }
 
     // Chooses the gain for a frame, by what is known of it, and puts it on the frame with a ramp where it
     // changed. Refused with 1, 4, 2 or 3, and then the frame stays as it was.
-    pub fn process(self, info: Info, frame: &mut [f32], channels: usize, samples: usize) -> Next
-        ensures value { result ≡ (processed self info frame.old channels samples).next }
+    pub fn process(
+        self,
+        info: Info,
+        frame: &mut [f32],
+        channels: usize,
+        samples: usize,
+    ) -> Result<Controller, Refusal>
+        ensures value { result ≡ handed (processed self info frame.old channels samples).next.reply (processed self info frame.old channels samples).next.controller }
         ensures frame_after { frame.new ≡ (processed self info frame.old channels samples).frame }
     {
         let shape = frames::is_shape(channels, samples, frame.len());
         let ok = self.passes();
         let figures = info.accepted();
-        let before = refusal(shape, ok, figures, true);
-        if before == DONE {
-            let next = self.decided(info);
-            let applier = next.applier;
-            // The applier looks at every sample, and refuses a frame that has a bad one.
-            let applied = applier.apply_gain(frame, channels, samples);
-            if applied.reply == DONE {
-                let after = applied.applier;
-                let mut controller = next;
-                controller.applier = after;
-                Next {
-                    reply: DONE,
-                    controller,
-                }
-            } else {
-                Next {
-                    reply: applied.reply,
-                    controller: self,
-                }
-            }
-        } else {
-            Next {
-                reply: before,
-                controller: self,
-            }
-        }
+        check(shape, ok, figures, true)?;
+        let next = self.decided(info);
+        // The applier looks at every sample, and refuses a frame that has a bad one.
+        let applier = next.applier.apply_gain(frame, channels, samples)?;
+        Ok(Controller { applier, ..next })
     }
 
     // Marks a gap: frames were lost, so that those before it and after it are not adjacent. All of the adjacent
     // speech frames are to come again before the gain may rise; the gain and its ramp stay. A state that fails
     // its test is refused with 4.
-    pub fn gap(self) -> Next
-        ensures { result ≡ gap self }
+    #[tactic(auto, unfolding(crate::specs::Calls::gap, units::specs::Handed::handed, units::specs::Replies::refusal))]
+    pub fn gap(self) -> Result<Controller, Refusal>
+        ensures { result ≡ handed (gap self).reply (gap self).controller }
     {
-        let ok = self.passes();
-        let reply = refusal(true, ok, true, true);
-        if ok {
-            let after = self.interrupted();
-            Next {
-                reply,
-                controller: after,
-            }
-        } else {
-            Next {
-                reply,
-                controller: self,
-            }
-        }
+        check(true, self.passes(), true, true)?;
+        Ok(self.interrupted())
     }
 
     // The controller after a gap.
+    #[tactic(auto, unfolding(crate::specs::Controller::interrupted))]
     fn interrupted(self) -> Controller
         ensures { result ≡ interrupted self }
     {
-        let applier = self.applier;
-        let settings = self.settings;
         Controller {
-            applier,
-            settings,
-            threshold: self.threshold,
-            change: self.change,
             waiting: self.threshold,
-            gain: self.gain,
+            ..self
         }
     }
 }

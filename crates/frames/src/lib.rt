@@ -76,24 +76,6 @@ pub fn are_within(bound: f32, frame: &[f32]) -> bool
     }
 }
 
-// The first reply that applies to a frame, in the order 1, 4, 2, 3. Of the caller's own tests, set
-// says that the samples are those that its state was set to, setting that its settings and its state
-// pass, and figure that its figures do.
-pub fn refusal(
-    frame: &[f32],
-    channels: usize,
-    samples: usize,
-    set: bool,
-    setting: bool,
-    figure: bool,
-    bound: f32,
-) -> u32
-    ensures { result ≡ frame_refusal frame.now channels samples set setting figure bound }
-{
-    let shape = is_shape(channels, samples, frame.len()) & set;
-    units::replies::refusal(shape, setting, figure, are_within(bound, frame))
-}
-
 // Refuses with the first that applies to a frame, in the order 1, 4, 2, 3. Of the caller's own tests, set
 // says that the samples are those that its state was set to, setting that its settings and its state
 // pass, and figure that its figures do.
@@ -108,6 +90,6 @@ pub fn check(
 ) -> Result<(), Refusal>
     ensures { result ≡ handed (frame_refusal frame.now channels samples set setting figure bound) tt }
 {
-    let same = is_shape(channels, samples, frame.len()) & set;
-    units::refusals::check(same, setting, figure, are_within(bound, frame))
+    let shape = is_shape(channels, samples, frame.len()) & set;
+    units::refusals::check(shape, setting, figure, are_within(bound, frame))
 }

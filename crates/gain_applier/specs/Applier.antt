@@ -9,8 +9,6 @@ use Rattle.frames.specs.Samples.{largest_input}
 use Rattle.frames.specs.Refusal.{frame_refusal}
 use Rattle.gain_applier.specs.Sound.{gained, finished}
 use Rattle.gain_applier.specs.declared.Applier.{Applier}
-use Rattle.gain_applier.specs.declared.Next.{Next}
-use Rattle.gain_applier.specs.declared.Factor.{Factor}
 
 -- "samples a shape's (an applier's also -1)"
 unfoldable pub remembered : ℤ → Bool
@@ -34,6 +32,16 @@ none = record { clip = false; last = from_bits binary32 0x0000_0000; current = f
 
 unfoldable pub starting : Bool → Float → Applier
 starting clip factor = record { clip = clip; last = factor; current = factor; samples = negsuc 0; inverse = from_bits binary32 0xbf80_0000 }
+
+-- a reply, and the applier that goes on from there: the one that came in where it is refused, and all 0 and false where it is a new one
+pub record Next : Type 0 where
+  pub reply : ℕ
+  pub applier : Applier
+
+-- a reply, and a gain factor: 0 where it is refused
+pub record Factor : Type 0 where
+  pub reply : ℕ
+  pub factor : Float
 
 -- a new applier: reply 2 where the factor is out of range
 unfoldable pub made : Bool → Float → Next

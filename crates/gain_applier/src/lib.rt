@@ -7,9 +7,10 @@ ghost use Rattle.std.specs.Prelude.{◌≡◌, ◌*◌, ◌≤◌, length};
 ghost use Rattle.frames.specs.Parts.{each_part};
 ghost use Rattle.gain_applier.specs.Sound.{close_to_one, scaled, ramped, clipped, finished, gained};
 ghost use Rattle.gain_applier.specs.Gains.{gains_from, gain_after, multiplied};
-ghost use Rattle.gain_applier.specs.Applier.{remembered, inverse_of, passes, made, Applied, applied, aimed, told};
+ghost use Rattle.gain_applier.specs.Applier.{remembered, inverse_of, passes, none, made, Applied, applied, aimed, told};
+ghost use Rattle.units.specs.Handed.{handed};
 
-use units::replies::DONE;
+use units::refusals::{Refusal, check};
 
 // The ends of what counts as a gain of 1: 1 - 1/32767 and 1 + 1/32767, worked out in f32.
 const LEAST_ONE: f32 = 0.9999695;
@@ -33,21 +34,6 @@ pub struct Applier {
     pub current: f32,
     pub samples: i32,
     pub inverse: f32,
-}
-
-// A reply's number, and the applier that goes on from there: the one that came in where it is refused,
-// and all 0 and false where it is a new one.
-#[derive(Clone, Copy)]
-pub struct Next {
-    pub reply: u32,
-    pub applier: Applier,
-}
-
-// A reply's number, and a gain factor: 0 where it is refused.
-#[derive(Clone, Copy)]
-pub struct Factor {
-    pub reply: u32,
-    pub factor: f32,
 }
 
 // Whether a gain factor is so close to 1 that it would not change a sample of 16 bits.
@@ -267,35 +253,33 @@ fn is_remembered(samples: i32) -> bool
 }
 
 impl Applier {
-    // An applier at a gain factor above 0 and below 512; refused with 2 at any other.
-    pub fn new(clip: bool, factor: f32) -> Next
-        ensures { result ≡ made clip factor }
+    // All 0 and false: what stands where there is no applier. It passes no test.
+    #[tactic(auto, unfolding(crate::specs::Applier::none))]
+    pub fn none() -> Applier
+        ensures { result ≡ none }
     {
-        let ok = units::figures::is_gain_factor(factor);
-        let reply = units::replies::refusal(true, true, ok, true);
-        if ok {
-            Next {
-                reply,
-                applier: Applier {
-                    clip,
-                    last: factor,
-                    current: factor,
-                    samples: -1,
-                    inverse: -1.0,
-                },
-            }
-        } else {
-            Next {
-                reply,
-                applier: Applier {
-                    clip: false,
-                    last: 0.0,
-                    current: 0.0,
-                    samples: 0,
-                    inverse: 0.0,
-                },
-            }
+        Applier {
+            clip: false,
+            last: 0.0,
+            current: 0.0,
+            samples: 0,
+            inverse: 0.0,
         }
+    }
+
+    // An applier at a gain factor above 0 and below 512; refused with 2 at any other.
+    #[tactic(auto, unfolding(crate::specs::Applier::made, crate::specs::Applier::starting, units::specs::Handed::handed, units::specs::Replies::refusal))]
+    pub fn new(clip: bool, factor: f32) -> Result<Applier, Refusal>
+        ensures { result ≡ handed (made clip factor).reply (made clip factor).applier }
+    {
+        check(true, true, units::figures::is_gain_factor(factor), true)?;
+        Ok(Applier {
+            clip,
+            last: factor,
+            current: factor,
+            samples: -1,
+            inverse: -1.0,
+        })
     }
 
     // Whether a handed-in state passes: both factors in range, samples that are -1 or a frame's, and 1
@@ -312,12 +296,17 @@ impl Applier {
 
     // Puts the gain on a frame, with a ramp where it changed, and clips if that is set; refused with
     // 1, 4 or 3, and then the frame stays as it was.
-    pub fn apply_gain(self, frame: &mut [f32], channels: usize, samples: usize) -> Next
-        ensures value { result ≡ (applied self frame.old channels samples).next }
+    pub fn apply_gain(
+        self,
+        frame: &mut [f32],
+        channels: usize,
+        samples: usize,
+    ) -> Result<Applier, Refusal>
+        ensures value { result ≡ handed (applied self frame.old channels samples).next.reply (applied self frame.old channels samples).next.applier }
         ensures frame_after { frame.new ≡ (applied self frame.old channels samples).frame }
     {
         let ok = self.passes();
-        let reply = frames::refusal(
+        frames::check(
             frame,
             channels,
             samples,
@@ -325,52 +314,38 @@ impl Applier {
             ok,
             true,
             frames::LARGEST_INPUT,
-        );
-        if reply == DONE {
-            let inverse = inverse_of(samples as i32);
-            put_gain(frame, channels, samples, self.last, self.current, inverse);
-            finish(frame, self.clip);
-            Next {
-                reply,
-                applier: Applier {
-                    clip: self.clip,
-                    last: self.current,
-                    current: self.current,
-                    samples: samples as i32,
-                    inverse,
-                },
-            }
-        } else {
-            Next {
-                reply,
-                applier: self,
-            }
-        }
+        )?;
+        let inverse = inverse_of(samples as i32);
+        put_gain(frame, channels, samples, self.last, self.current, inverse);
+        finish(frame, self.clip);
+        Ok(Applier {
+            last: self.current,
+            samples: samples as i32,
+            inverse,
+            ..self
+        })
     }
 
     // The applier with another gain factor to end the next frame with; refused with 4 or 2.
-    pub fn set_gain_factor(self, factor: f32) -> Next
-        ensures { result ≡ aimed self factor }
+    #[tactic(auto, unfolding(crate::specs::Applier::aimed, units::specs::Handed::handed, units::specs::Replies::refusal))]
+    pub fn set_gain_factor(self, factor: f32) -> Result<Applier, Refusal>
+        ensures { result ≡ handed (aimed self factor).reply (aimed self factor).applier }
     {
         let ok = self.passes();
         let fits = units::figures::is_gain_factor(factor);
-        let current = floats::pick(ok & fits, factor, self.current);
-        let mut next = self;
-        next.current = current;
-        Next {
-            reply: units::replies::refusal(true, ok, fits, true),
-            applier: next,
-        }
+        check(true, ok, fits, true)?;
+        Ok(Applier {
+            current: factor,
+            ..self
+        })
     }
 
     // The gain factor that the next frame ends with; a state that fails its test is refused with 4.
-    pub fn get_gain_factor(self) -> Factor
-        ensures { result ≡ told self }
+    #[tactic(auto, unfolding(crate::specs::Applier::told, units::specs::Handed::handed, units::specs::Replies::refusal))]
+    pub fn get_gain_factor(self) -> Result<f32, Refusal>
+        ensures { result ≡ handed (told self).reply (told self).factor }
     {
-        let ok = self.passes();
-        Factor {
-            reply: units::replies::refusal(true, ok, true, true),
-            factor: floats::pick(ok, self.current, 0.0),
-        }
+        check(true, self.passes(), true, true)?;
+        Ok(self.current)
     }
 }

@@ -17,10 +17,10 @@ use Rattle.frames.specs.Refusal.{frame_refusal}
 use Rattle.frames.specs.Facts.{Taken, taken, not_refused}
 use Rattle.decibels.specs.Ratio.{answer}
 use Rattle.gain_applier.specs.Applier as Applier
+use Rattle.gain_applier.specs.Applier.{Next as Applied}
 use Rattle.gain_applier.specs.Range.{Held}
 use Rattle.gain_applier.specs.Laws.Again.{equals_itself, starting_passes, arrived_passes, samples_pass}
 use Rattle.gain_applier.specs.Laws.Sound.{applied_within}
-use Rattle.gain_applier.specs.declared.Next.{Next as Applied}
 use Rattle.adaptive_digital_gain_controller.specs.Change.{per_frame}
 use Rattle.adaptive_digital_gain_controller.specs.Controller.{accepted, passes, fresh, decided}
 use Rattle.adaptive_digital_gain_controller.specs.Calls.{made, with_applier, Processed, processed}
