@@ -7,11 +7,10 @@ use Rattle.std.specs.Float.{binary32}
 use Rattle.std.specs.Float.Ieee.{of_bits, le, lt, eq}
 use Rattle.units.specs.Replies.{done, refusal}
 use Rattle.runs.specs.Runs.{speech, framed, published}
-use Rattle.saturation_protector.specs.Calls.{figures, stepped, gap}
+use Rattle.saturation_protector.specs.Calls.{Next, figures, stepped, gap}
 use Rattle.saturation_protector.specs.Protector.{capacities, passes, analyzed, interrupted}
 use Rattle.saturation_protector.specs.Laws.Again.{stepped_passes}
 use Rattle.saturation_protector.specs.Laws.Capacity.{stepped_capacities}
-use Rattle.saturation_protector.specs.declared.Next.{Next}
 use Rattle.saturation_protector.specs.declared.Protector.{Protector}
 
 -- A protector after a gap is the one after a frame that is not speech, whatever its peak and the level.

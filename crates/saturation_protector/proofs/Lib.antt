@@ -3,3 +3,5 @@ pub mod Joined
 pub mod Forty
 pub mod Short
 pub mod Gaps
+-- What the proofs of several functions share.
+pub mod Accepted

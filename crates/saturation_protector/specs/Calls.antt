@@ -5,11 +5,20 @@ use Rattle.std.specs.Float.Ieee.{of_bits}
 use Rattle.units.specs.Figures.{probability, level, headroom}
 use Rattle.units.specs.Replies.{refusal}
 use Rattle.units.specs.Settings.{threshold}
+use Rattle.units.specs.declared.kinds.Db.{Db}
 use Rattle.saturation_protector_buffer.specs.Ring.{is_capacity}
 use Rattle.saturation_protector.specs.Protector.{passes, nothing, fresh, again, analyzed, interrupted}
 use Rattle.saturation_protector.specs.declared.Protector.{Protector}
-use Rattle.saturation_protector.specs.declared.Next.{Next}
-use Rattle.saturation_protector.specs.declared.Headroom.{Headroom}
+
+-- a reply's number, and the protector that goes on from there: the one that came in where it is refused, and all 0 where it is a new one
+pub record Next : Type 0 where
+  pub reply : ℕ
+  pub protector : Protector
+
+-- a reply's number, and the published headroom: 0 where it is refused
+pub record Headroom : Type 0 where
+  pub reply : ℕ
+  pub headroom : Db
 
 -- a new protector: 4 for the threshold and for the ring's capacity comes before 2 for the initial headroom
 unfoldable pub made : Float → ℕ → ℕ → Next

@@ -2,17 +2,19 @@
 
 #![tactic(auto)]
 
-ghost use Rattle.std.specs.Prelude.{◌≡◌, ◌≤◌, cond, true};
+ghost use Rattle.std.specs.Prelude.{◌≡◌, cond, true};
 ghost use Rattle.units.specs.Figures.{level as is_level};
-ghost use Rattle.saturation_protector_buffer.specs.Rings.{slots};
-ghost use Rattle.saturation_protector_buffer.specs.Ring.{largest, is_capacity, passes as passes_ring, push, items};
+ghost use Rattle.units.specs.Replies.{refusal};
+ghost use Rattle.units.specs.Handed.{handed};
+ghost use Rattle.saturation_protector_buffer.specs.Ring.{is_capacity, passes as passes_ring, push, items};
 ghost use Rattle.saturation_protector.specs.Peaks.{all_levels, none, starting, passes, oldest_or, nearer, restarted, advanced};
-ghost use Rattle.saturation_protector.specs.Protector.{passes as passes_protector, fresh, nothing, analyzed, interrupted};
+ghost use Rattle.saturation_protector.specs.Protector.{passes as passes_protector, fresh, nothing, again, analyzed, interrupted};
 ghost use Rattle.saturation_protector.specs.Calls.{made, stepped, gap, reset, told};
 
-use saturation_protector_buffer::{Front, Ring, STORAGE, is_capacity};
+use saturation_protector_buffer::{Ring, is_capacity};
+use units::figures::{is_headroom, is_level, is_probability};
 use units::kinds::{Db, Dbfs};
-use units::replies::refusal;
+use units::refusals::{Refusal, check};
 
 // How many milliseconds a frame lasts.
 const FRAME: u32 = 10;
@@ -57,51 +59,25 @@ pub struct Protector {
     pub reliable: Peaks,
 }
 
-// A reply's number, and the protector that goes on from there: the one that came in where it is refused,
-// and all 0 where it is a new one.
-#[derive(Clone, Copy)]
-pub struct Next {
-    pub reply: u32,
-    pub protector: Protector,
-}
-
-// A reply's number, and the published headroom: 0 where it is refused.
-#[derive(Clone, Copy)]
-pub struct Headroom {
-    pub reply: u32,
-    pub headroom: Db,
-}
-
-// The first of two states where b, otherwise the second.
-fn pick_peaks(b: bool, x: Peaks, y: Peaks) -> Peaks
-    ensures { result ≡ cond b x y }
-{
-    if b { x } else { y }
-}
-
 // The ring with a peak more where one is due, and as it is otherwise.
 fn pushed_when(due: bool, ring: Ring, peak: f32) -> Ring
     requires { (passes_ring ring ≡ true) × (is_level peak ≡ true) }
     ensures { result ≡ cond due (push ring peak) ring }
 {
     if due {
-        let pushed = ring.push_back(Dbfs(peak));
-        pushed.ring
+        ring.push_back(Dbfs(peak)).unwrap()
     } else {
         ring
     }
 }
 
-// Whether each of the first n slots lies from -150 to 50. It looks at every one of them, whatever it finds.
-fn are_levels(stored: [f32; STORAGE], n: usize) -> bool
-    requires { n ≤ largest }
-    ensures { result ≡ all_levels (slots n stored) }
+// Whether each of these slots lies from -150 to 50. It looks at every one of them, whatever it finds.
+fn are_levels(slots: &[f32]) -> bool
+    ensures { result ≡ all_levels slots.now }
 {
     let mut ok = true;
-    let mut i = 0;
-    while i < n {
-        ok = ok & units::figures::is_level(Dbfs(stored[i]));
-        i += 1;
+    for x in slots {
+        ok &= is_level(Dbfs(*x));
     }
     ok
 }
@@ -111,16 +87,15 @@ fn oldest_or(ring: Ring, other: f32) -> f32
     requires { passes_ring ring ≡ true }
     ensures { result ≡ oldest_or (items ring) other }
 {
-    let found = ring.front();
-    let front = found.front;
-    match front {
-        Front::None => other,
-        Front::Oldest(peak) => peak.0,
+    match ring.front().unwrap() {
+        None => other,
+        Some(peak) => peak.0,
     }
 }
 
 // The headroom after a frame: a little nearer to the difference that the frame asks for, quicker where that
 // is larger, and from 12 to 25.
+#[tactic(auto, unfolding(crate::specs::Peaks::nearer))]
 fn nearer(headroom: f32, difference: f32) -> f32
     ensures { result ≡ nearer headroom difference }
 {
@@ -134,23 +109,20 @@ impl Peaks {
         requires { is_capacity capacity ≡ true }
         ensures { result ≡ starting headroom capacity }
     {
-        let made = Ring::new(capacity);
-        let ring = made.ring;
         Peaks {
             headroom,
-            ring,
+            ring: Ring::new(capacity).unwrap(),
             largest: LOWEST,
             elapsed: 0,
         }
     }
 
-    // All 0: what stands in a state that was refused.
+    // All 0, which passes no test.
+    #[tactic(auto, unfolding(crate::specs::Peaks::none))]
     fn none() -> Peaks
         ensures { result ≡ none }
     {
-        // A ring that is refused is all 0.
-        let made = Ring::new(0);
-        let ring = made.ring;
+        let ring = Ring::none();
         Peaks {
             headroom: 0.0,
             ring,
@@ -167,11 +139,10 @@ impl Peaks {
         let ring = self.ring;
         // What is a level is finite, so the slots are looked at once.
         if ring.fits() {
-            let stored = ring.stored;
-            let n = ring.capacity as usize;
-            units::figures::is_headroom(Db(self.headroom))
-                & are_levels(stored, n)
-                & units::figures::is_level(Dbfs(self.largest))
+            let slots = ring.slots();
+            is_headroom(Db(self.headroom))
+                & are_levels(slots)
+                & is_level(Dbfs(self.largest))
                 & ((self.elapsed <= LONGEST) & (self.elapsed % FRAME == 0))
         } else {
             false
@@ -183,9 +154,7 @@ impl Peaks {
         requires { passes_ring self.ring ≡ true }
         ensures { result ≡ restarted headroom self }
     {
-        let before = self.ring;
-        let after = before.reset();
-        let ring = after.ring;
+        let ring = self.ring.reset().unwrap();
         Peaks {
             headroom,
             ring,
@@ -199,11 +168,10 @@ impl Peaks {
         requires { (passes self ≡ true) × (is_level peak ≡ true) }
         ensures { result ≡ advanced peak level self }
     {
-        let before = self.ring;
         let larger = floats::larger(self.largest, peak);
         let later = self.elapsed + FRAME;
         let due = LONGEST < later;
-        let ring = pushed_when(due, before, larger);
+        let ring = pushed_when(due, self.ring, larger);
         let largest = floats::pick(due, LOWEST, larger);
         let elapsed = floats::pick(due, 0, later);
         let difference = oldest_or(ring, largest) - level;
@@ -221,51 +189,45 @@ impl Protector {
     // A new protector that starts at a headroom, and whose rings hold so many peaks. A threshold that is not from 1
     // to the largest and a capacity that is not from 1 to 16 are refused with 4, and then a headroom that is not
     // above 0 and to 100 with 2.
-    pub fn new(initial: Db, threshold: u32, capacity: u32) -> Next
-        ensures { result ≡ made initial.0 threshold capacity }
+    pub fn new(initial: Db, threshold: u32, capacity: u32) -> Result<Protector, Refusal>
+        ensures { result ≡ handed (made initial.0 threshold capacity).reply (made initial.0 threshold capacity).protector }
     {
         let setting = units::settings::is_threshold(threshold) & is_capacity(capacity);
-        let figure = units::figures::is_headroom(Db(initial.0));
-        let reply = refusal(true, setting, figure, true);
-        if setting & figure {
-            let protector = Protector::fresh(initial.0, threshold, capacity);
-            Next { reply, protector }
-        } else {
-            let protector = Protector::nothing();
-            Next { reply, protector }
-        }
+        let figure = is_headroom(initial);
+        check(true, setting, figure, true)?;
+        Ok(Protector::fresh(initial.0, threshold, capacity))
     }
 
-    // A protector at the start: no peak yet, and the headroom to start with is published.
-    fn fresh(initial: f32, threshold: u32, capacity: u32) -> Protector
-        requires { is_capacity capacity ≡ true }
-        ensures { result ≡ fresh initial threshold capacity }
-    {
-        let preliminary = Peaks::starting(initial, capacity);
-        let reliable = Peaks::starting(initial, capacity);
-        Protector {
-            initial,
-            threshold,
-            count: 0,
-            headroom: initial,
-            preliminary,
-            reliable,
-        }
-    }
-
-    // All 0: what stands in a protector that was refused.
-    fn nothing() -> Protector
+    // All 0, which passes no test: what stands where a protector was refused.
+    #[tactic(auto, unfolding(crate::specs::Protector::nothing))]
+    pub fn none() -> Protector
         ensures { result ≡ nothing }
     {
-        let preliminary = Peaks::none();
-        let reliable = Peaks::none();
+        let none = Peaks::none();
         Protector {
             initial: 0.0,
             threshold: 0,
             count: 0,
             headroom: 0.0,
-            preliminary,
-            reliable,
+            preliminary: none,
+            reliable: none,
+        }
+    }
+
+    // A protector at the start: no peak yet, and the headroom to start with is published.
+    #[tactic(auto, unfolding(crate::specs::Protector::fresh))]
+    fn fresh(initial: f32, threshold: u32, capacity: u32) -> Protector
+        requires { is_capacity capacity ≡ true }
+        ensures { result ≡ fresh initial threshold capacity }
+    {
+        let start = Peaks::starting(initial, capacity);
+        Protector {
+            initial,
+            threshold,
+            count: 0,
+            headroom: initial,
+            preliminary: start,
+            reliable: start,
         }
     }
 
@@ -276,40 +238,32 @@ impl Protector {
     {
         let preliminary = self.preliminary;
         let reliable = self.reliable;
-        units::figures::is_headroom(Db(self.initial))
+        is_headroom(Db(self.initial))
             & units::settings::is_threshold(self.threshold)
             & (self.count <= self.threshold)
-            & units::figures::is_headroom(Db(self.headroom))
+            & is_headroom(Db(self.headroom))
             & preliminary.passes()
             & reliable.passes()
             & (preliminary.ring.capacity == reliable.ring.capacity)
     }
 
-    // A refusal: the reply's number, and the protector as it came in.
-    fn unchanged(self, reply: u32) -> Next
-        ensures { result ≡ record { reply = reply; protector = self } }
+    // The protector itself. One that fails its test is refused with 4.
+    fn checked(self) -> Result<Protector, Refusal>
+        ensures { result ≡ handed (refusal true (passes_protector self) true true) self }
     {
-        let protector = self;
-        Next { reply, protector }
+        check(true, self.passes(), true, true)?;
+        Ok(self)
     }
 
     // Takes a frame's probability and peak, and the level of the speech. A speech frame advances the
     // preliminary state, and from the threshold on its headroom is published; any other frame keeps the
-    // run or throws it away. Refused with 4 or 2, and then nothing changes.
-    pub fn analyze(self, probability: f32, peak: Dbfs, level: Dbfs) -> Next
-        ensures { result ≡ stepped self probability peak.0 level.0 }
+    // run or throws it away. Refused with 4 or 2.
+    pub fn analyze(self, probability: f32, peak: Dbfs, level: Dbfs) -> Result<Protector, Refusal>
+        ensures { result ≡ handed (stepped self probability peak.0 level.0).reply (stepped self probability peak.0 level.0).protector }
     {
-        let ok = self.passes();
-        let figures = units::figures::is_probability(probability)
-            & units::figures::is_level(Dbfs(peak.0))
-            & units::figures::is_level(Dbfs(level.0));
-        let reply = refusal(true, ok, figures, true);
-        if ok & figures {
-            let protector = self.analyzed(probability, peak.0, level.0);
-            Next { reply, protector }
-        } else {
-            self.unchanged(reply)
-        }
+        let figures = is_probability(probability) & is_level(peak) & is_level(level);
+        check(true, self.passes(), figures, true)?;
+        Ok(self.analyzed(probability, peak.0, level.0))
     }
 
     // The protector after a frame.
@@ -317,109 +271,77 @@ impl Protector {
         requires { (passes_protector self ≡ true) × (is_level peak ≡ true) }
         ensures { result ≡ analyzed self probability peak level }
     {
-        let before = self.preliminary;
-        let trusted = self.reliable;
         let speech = runs::is_speech(probability);
-        let turn = runs::step(speech, self.threshold, self.count);
         if speech {
-            let preliminary = before.advanced(peak, level);
+            let turn = runs::step(true, self.threshold, self.count);
+            let preliminary = self.preliminary.advanced(peak, level);
             let headroom = floats::pick(turn.publish, preliminary.headroom, self.headroom);
             Protector {
-                initial: self.initial,
-                threshold: self.threshold,
                 count: turn.count,
                 headroom,
                 preliminary,
-                reliable: trusted,
+                ..self
             }
         } else {
-            let preliminary = pick_peaks(turn.throw, trusted, before);
-            let reliable = pick_peaks(turn.keep, before, trusted);
-            Protector {
-                initial: self.initial,
-                threshold: self.threshold,
-                count: turn.count,
-                headroom: self.headroom,
-                preliminary,
-                reliable,
-            }
+            // It ends the run as a gap does.
+            self.interrupted()
         }
     }
 
     // Marks a gap: frames were lost, so that those before it and after it are not adjacent. It ends the run as
     // a frame that is not speech does, and publishes nothing. A state that fails its test is refused with 4.
-    pub fn gap(self) -> Next
-        ensures { result ≡ gap self }
+    pub fn gap(self) -> Result<Protector, Refusal>
+        ensures { result ≡ handed (gap self).reply (gap self).protector }
     {
-        let ok = self.passes();
-        let reply = refusal(true, ok, true, true);
-        if ok {
-            let after = self.interrupted();
-            Next {
-                reply,
-                protector: after,
-            }
-        } else {
-            self.unchanged(reply)
-        }
+        Ok(self.checked()?.interrupted())
     }
 
     // The protector after a gap.
+    #[tactic(auto, unfolding(crate::specs::Protector::interrupted, runs::specs::Runs::closed, runs::specs::Runs::turned))]
     fn interrupted(self) -> Protector
         ensures { result ≡ interrupted self }
     {
         let before = self.preliminary;
         let trusted = self.reliable;
         let ended = runs::step(false, self.threshold, self.count);
-        let preliminary = pick_peaks(ended.throw, trusted, before);
-        let reliable = pick_peaks(ended.keep, before, trusted);
+        let preliminary = floats::pick(ended.throw, trusted, before);
+        let reliable = floats::pick(ended.keep, before, trusted);
         Protector {
-            initial: self.initial,
-            threshold: self.threshold,
             count: ended.count,
-            headroom: self.headroom,
             preliminary,
             reliable,
+            ..self
         }
     }
 
     // The protector at its start again, but for the storage of its rings. A state that fails its test is
     // refused with 4.
-    pub fn reset(self) -> Next
-        ensures { result ≡ reset self }
+    pub fn reset(self) -> Result<Protector, Refusal>
+        ensures { result ≡ handed (reset self).reply (reset self).protector }
     {
-        let ok = self.passes();
-        let reply = refusal(true, ok, true, true);
-        if ok {
-            let initial = self.initial;
-            let before = self.preliminary;
-            let trusted = self.reliable;
-            let preliminary = before.restarted(initial);
-            let reliable = trusted.restarted(initial);
-            Next {
-                reply,
-                protector: Protector {
-                    initial,
-                    threshold: self.threshold,
-                    count: 0,
-                    headroom: initial,
-                    preliminary,
-                    reliable,
-                },
-            }
-        } else {
-            self.unchanged(reply)
+        Ok(self.checked()?.again())
+    }
+
+    // The protector after a reset.
+    #[tactic(auto, unfolding(crate::specs::Protector::again))]
+    fn again(self) -> Protector
+        requires { passes_protector self ≡ true }
+        ensures { result ≡ again self }
+    {
+        let initial = self.initial;
+        Protector {
+            count: 0,
+            headroom: initial,
+            preliminary: self.preliminary.restarted(initial),
+            reliable: self.reliable.restarted(initial),
+            ..self
         }
     }
 
     // The published headroom. A state that fails its test is refused with 4.
-    pub fn headroom_db(self) -> Headroom
-        ensures { result ≡ told self }
+    pub fn headroom_db(self) -> Result<Db, Refusal>
+        ensures { result ≡ handed (told self).reply (told self).headroom }
     {
-        let ok = self.passes();
-        Headroom {
-            reply: refusal(true, ok, true, true),
-            headroom: Db(floats::pick(ok, self.headroom, 0.0)),
-        }
+        Ok(Db(self.checked()?.headroom))
     }
 }

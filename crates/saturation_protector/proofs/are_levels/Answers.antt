@@ -2,40 +2,26 @@
 -- Assumes nothing.
 use mathlib.Core.Bool.{◌&&◌, and_assoc, and-true}
 use mathlib.Core.List.{List}
-use mathlib.Core.Path.{◌≡◌, sym, ◌∙◌}
+use mathlib.Core.Path.{sym, ◌∙◌}
 use native.Mathlib.Omega.{arith}
 use lib.Ieee.{Float, nan}
-use lib.ListN.{length}
-use lib.Seq.{length-take-le, get_or-take}
-use borrow.Author.Rules.{rules}
 use Rattle.lists.specs.Loops.{scan, scan_done}
-use Rattle.saturation_protector_buffer.specs.Rings.{slots}
-use Rattle.saturation_protector_buffer.specs.Ring.{largest}
 use Rattle.saturation_protector.specs.Peaks.{all_levels}
 use Rattle.saturation_protector.proofs.are_levels.Goals as goal
 
-pub loop-i-preserved : goal.loop-i-preserved
+pub loop-x-preserved : goal.loop-x-preserved
 unfolding all_levels
-loop-i-preserved c =
-    let stored = c.args.stored in
-    let n = c.args.n in
-    let loop = c.loop-i in
+loop-x-preserved c =
+    let slots = c.args.slots.now in
+    let loop = c.loop-x in
     let ok = loop.ok in
     let r = c.is_level-ok.result in
-    let long : length stored ≡ largest = search rules in
-    let whole : length (slots n stored) ≡ n = length-take-le n stored (omega arith) in (
-      omega arith,
-      scan (λ (ys : List Float). ok && all_levels ys) (λ (ys : List Float). ok && r && all_levels ys) (slots n stored) loop.i nan (omega arith)
-          (rw (c.is_level-ok.ensures, get_or-take n stored loop.i nan (omega arith)) (sym (and_assoc ok _ _)))
-          ∙ loop.invariant.1,
-    )
+    scan (λ (ys : List Float). ok && all_levels ys) (λ (ys : List Float). ok && r && all_levels ys) slots loop.x-index nan c.loop-x-test.true
+    (rw c.is_level-ok.ensures (sym (and_assoc ok _ _)))
+    ∙ loop.invariant
 
 pub returns : goal.returns
 unfolding all_levels
 returns c =
-    let stored = c.args.stored in
-    let n = c.args.n in
-    let loop = c.loop-i in
-    let long : length stored ≡ largest = search rules in
-    let whole : length (slots n stored) ≡ n = length-take-le n stored (omega arith) in
-    sym (and-true loop.ok) ∙ sym (scan_done (λ (ys : List Float). loop.ok && all_levels ys) (slots n stored) loop.i (omega arith)) ∙ loop.invariant.1
+    let loop = c.loop-x in
+    sym (and-true loop.ok) ∙ sym (scan_done (λ (ys : List Float). loop.ok && all_levels ys) c.args.slots.now loop.x-index (omega arith)) ∙ loop.invariant

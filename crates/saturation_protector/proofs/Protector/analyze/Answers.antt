@@ -1,45 +1,35 @@
 -- `saturation_protector::Protector::analyze` meets its contract: a frame that is not refused has a state that passes and a peak in its range. Assumes nothing.
-use mathlib.Core.Bool.{Bool, true, false, ◌&&◌}
+use mathlib.Core.Bool.{true, ◌&&◌}
 use mathlib.Core.List.{[], ◌∷◌}
-use mathlib.Core.Path.{◌≡◌, sym, ◌∙◌}
-use Prim.Native.Nat.{ℕ}
-use lib.Ieee.{Float}
+use mathlib.Core.Path.{◌≡◌, refl, sym, ◌∙◌}
 use Rattle.lists.specs.Tests.{each_of}
-use Rattle.units.specs.Figures.{probability, level}
 use Rattle.units.specs.Replies.{refusal}
+use Rattle.units.specs.Handed.{handed}
+use Rattle.units.specs.Laws.Replies.{none_refused}
+use Rattle.units.specs.Laws.Handed.{refused_by, passed_done}
 use Rattle.saturation_protector.specs.Calls.{stepped}
-use Rattle.saturation_protector.specs.Protector.{passes, analyzed}
-use Rattle.saturation_protector.specs.declared.Protector.{Protector}
-use Rattle.saturation_protector.specs.declared.Next.{Next}
 use Rattle.saturation_protector.proofs.Protector.analyze.Goals as goal
+use Rattle.saturation_protector.proofs.Protector.analyze.Goals.{In_ok-check}
 
-pub analyzed-protector-requires : goal.analyzed-protector-requires
-analyzed-protector-requires c =
-    let tests = c in
-    let p = tests.passes-ok in
-    let both = each_of (p.result ∷ _ ∷ []) c.if-ok-figures.true in
-    let figures = each_of (tests.is_probability.result ∷ tests.is_level.result ∷ tests.is_level-2.result ∷ []) (both 1) in
-    (sym p.ensures ∙ both 0, sym tests.is_level.ensures ∙ figures 1)
+-- what was not refused passed its tests
+accepted : (c : In_ok-check)
+    → (c.passes.result ≡ true) × (c.is_probability.result && c.is_level.result && c.is_level-2.result ≡ true)
+accepted c = let k = none_refused true _ _ true (passed_done _ _ _ c.in_ok-check.ensures) in (k.1, k.2)
 
--- the answer, with what the calls gave
-module _ (s : Protector) (p peak speech : Float) (ok likely first second : Bool) (reply : ℕ) (o : ok ≡ passes s) (l : likely ≡ probability p) (f : first ≡ level peak) (g : second ≡ level speech) (r : reply ≡ refusal true ok (likely && first && second) true) where
-  taken : (next : Protector) → ok && (likely && first && second) ≡ true → next ≡ analyzed s p peak speech
-      → ◌≡◌ {A = Next} (record { reply = reply; protector = next }) (stepped s p peak speech)
-  unfolding stepped
-  taken next t n = rw (n, r, ← o, ← l, ← f, ← g, t)
+pub returns-in_err-check : goal.returns-in_err-check
+unfolding stepped
+returns-in_err-check c =
+    rw (← c.passes.ensures, ← c.is_probability.ensures, ← c.is_level.ensures, ← c.is_level-2.ensures)
+    (refused_by _ _ _ _ _ c.from_residual.ensures.1 c.in_err-check.ensures)
 
-  left : (next : Next) → ok && (likely && first && second) ≡ false → next ≡ record { reply = reply; protector = s } → next ≡ stepped s p peak speech
-  unfolding stepped
-  left next t n = rw (n, r, ← o, ← l, ← f, ← g, t)
+pub analyzed-requires : goal.analyzed-requires
+analyzed-requires c =
+    let k = accepted c in
+    let figures = each_of (c.is_probability.result ∷ c.is_level.result ∷ c.is_level-2.result ∷ []) k.1 in
+    (sym c.passes.ensures ∙ k.0, sym c.is_level.ensures ∙ figures 1)
 
-pub returns-then-ok-figures : goal.returns-then-ok-figures
-returns-then-ok-figures c =
-    let tests = c in
-    taken _ _ _ _ _ _ _ _ _ tests.passes-ok.ensures tests.is_probability.ensures tests.is_level.ensures
-    tests.is_level-2.ensures c.refusal-reply.ensures _ c.if-ok-figures.true c.analyzed-protector.ensures
-
-pub returns-else-ok-figures : goal.returns-else-ok-figures
-returns-else-ok-figures c =
-    let tests = c in
-    left _ _ _ _ _ _ _ _ _ tests.passes-ok.ensures tests.is_probability.ensures tests.is_level.ensures
-    tests.is_level-2.ensures c.refusal-reply.ensures _ c.if-ok-figures.false c.unchanged.ensures
+pub returns : goal.returns
+unfolding stepped refusal handed
+returns c =
+    let k = accepted c.before in
+    rw (c.analyzed.ensures, ← c.passes.ensures, ← c.is_probability.ensures, ← c.is_level.ensures, ← c.is_level-2.ensures, k.0, k.1) refl

@@ -1,7 +1,16 @@
 -- `saturation_protector::Protector::headroom_db` meets its contract. Assumes nothing.
+use mathlib.Core.Path.{refl}
+use Rattle.units.specs.Replies.{refusal}
+use Rattle.units.specs.Handed.{handed}
+use Rattle.units.specs.Laws.Handed.{refused_by}
 use Rattle.saturation_protector.specs.Calls.{told}
+use Rattle.saturation_protector.proofs.Accepted.{accepted}
 use Rattle.saturation_protector.proofs.Protector.headroom_db.Goals as goal
 
-pub returns : goal.returns
+pub returns-in_err-checked : goal.returns-in_err-checked
 unfolding told
-returns c = rw (c.pick.ensures, c.refusal.ensures, c.passes-ok.ensures)
+returns-in_err-checked c = refused_by _ _ _ _ _ c.from_residual.ensures.1 c.in_err-checked.ensures
+
+pub returns : goal.returns
+unfolding told refusal handed
+returns c = let k = accepted c.args.self _ c.in_ok-checked.ensures in rw (← k.1, k.0) refl

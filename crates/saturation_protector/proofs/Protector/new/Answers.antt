@@ -1,26 +1,31 @@
 -- `saturation_protector::Protector::new` meets its contract: what is not refused has a capacity. Assumes nothing.
+use mathlib.Core.Bool.{true, ◌&&◌}
 use mathlib.Core.List.{[], ◌∷◌}
-use mathlib.Core.Path.{sym, ◌∙◌}
+use mathlib.Core.Path.{◌≡◌, refl, sym, ◌∙◌}
 use Rattle.lists.specs.Tests.{each_of}
+use Rattle.units.specs.Replies.{refusal}
+use Rattle.units.specs.Handed.{handed}
+use Rattle.units.specs.Laws.Replies.{none_refused}
+use Rattle.units.specs.Laws.Handed.{refused_by, passed_done}
 use Rattle.saturation_protector.specs.Calls.{made}
 use Rattle.saturation_protector.proofs.Protector.new.Goals as goal
+use Rattle.saturation_protector.proofs.Protector.new.Goals.{In_ok-check}
 
-pub fresh-protector-requires : goal.fresh-protector-requires
-fresh-protector-requires c =
-    let settings = c in
-    let both = each_of (_ ∷ _ ∷ []) c.if-setting-figure.true in
-    sym settings.is_capacity.ensures ∙ each_of (settings.is_threshold.result ∷ _ ∷ []) (both 0) 1
+-- what was not refused passed both tests
+accepted : (c : In_ok-check) → (c.is_threshold.result && c.is_capacity.result ≡ true) × (c.is_headroom-figure.result ≡ true)
+accepted c = let k = none_refused true _ _ true (passed_done _ _ _ c.in_ok-check.ensures) in (k.1, k.2)
 
-pub returns-then-setting-figure : goal.returns-then-setting-figure
+pub returns-in_err-check : goal.returns-in_err-check
 unfolding made
-returns-then-setting-figure c =
-    let tests = c in
-    let settings = tests in
-    rw (c.fresh-protector.ensures, tests.refusal-reply.ensures, ← settings.is_threshold.ensures, ← settings.is_capacity.ensures, ← tests.is_headroom-figure.ensures, c.if-setting-figure.true)
+returns-in_err-check c =
+    rw (← c.is_threshold.ensures, ← c.is_capacity.ensures, ← c.is_headroom-figure.ensures)
+    (refused_by _ _ _ _ _ c.from_residual.ensures.1 c.in_err-check.ensures)
 
-pub returns-else-setting-figure : goal.returns-else-setting-figure
-unfolding made
-returns-else-setting-figure c =
-    let tests = c in
-    let settings = tests in
-    rw (c.nothing-protector.ensures, tests.refusal-reply.ensures, ← settings.is_threshold.ensures, ← settings.is_capacity.ensures, ← tests.is_headroom-figure.ensures, c.if-setting-figure.false)
+pub fresh-requires : goal.fresh-requires
+fresh-requires c = sym c.is_capacity.ensures ∙ each_of (c.is_threshold.result ∷ c.is_capacity.result ∷ []) (accepted c).0 1
+
+pub returns : goal.returns
+unfolding made refusal handed
+returns c =
+    let k = accepted c.before in
+    rw (c.fresh.ensures, ← c.is_threshold.ensures, ← c.is_capacity.ensures, ← c.is_headroom-figure.ensures, k.0, k.1) refl
