@@ -3,37 +3,39 @@
 
 #![tactic(auto)]
 
-ghost use Rattle.std.specs.Prelude.{◌≡◌, drop};
-ghost use Rattle.strip_format.specs.Calls.{read_head, read_of};
+ghost use Rattle.std.specs.Prelude.{◌≡◌, ◌≢◌, drop, None, Ok};
+ghost use Rattle.strip_format.specs.Calls.{read_head, head_read_of, read_of};
 ghost use Rattle.strip_reader.specs.Reader.{fresh, fresh_in, passes, asked, handed, is_more, step_of, head_fed, record_fed, fed, finished, next_of, next};
 
-use strip_format::{
-    Found, HEAD_BYTES, Head, HeadRead, RecordRead, Version, read_head, read_head_in, read_record,
-};
+use strip_format::{Entry, HEAD_BYTES, Head, Version, read_head, read_head_in, read_record};
 use units::figures::Figures;
-use units::replies::{CUT, DONE, SETTING};
+use units::refusals::Refusal;
 
 // What a reader waits for: the rest of the head, the rest of a record, or nothing, after a refusal.
-const HEAD: u32 = 0;
-
-const RECORDS: u32 = 1;
-
-const OVER: u32 = 2;
+#[derive(Clone, Copy, Debug, PartialEq, Eq, Hash)]
+pub enum Stage {
+    Head,
+    Records,
+    Over,
+}
 
 // The bytes of a head or a record that is not whole yet, how many they are, what the reader waits for, whether it takes
 // a strip of any version, and the version: the strip's, once its head is known; before it the only one that is taken, and
 // 1 where any is.
+//
+// The room for the bytes is fixed, as all memory of the library and of its programs is, so their number stands beside it.
+// Of the version and whether any is taken the definitions `begun` and `asked` speak, and the theorem `any_cutting`.
 #[derive(Clone, Copy)]
 pub struct Reader {
     pub held: [u8; HEAD_BYTES],
     pub count: usize,
-    pub stage: u32,
+    pub stage: Stage,
     pub any: bool,
     pub version: Version,
 }
 
-// What comes out: nothing yet; the head; the figures of a record; a gap; the end, after the last whole record; or the
-// reply with which the head or the next record is refused.
+// What comes out: nothing yet; the head; the figures of a record; a gap; the end, after the last whole record; or that
+// with which the head or the next record is refused.
 #[derive(Clone, Copy)]
 pub enum Got {
     More,
@@ -41,7 +43,7 @@ pub enum Got {
     Record(Figures),
     Gap,
     End,
-    Refused(u32),
+    Refused(Refusal),
 }
 
 // What came out, and the reader that goes on.
@@ -60,22 +62,17 @@ pub struct Next {
 }
 
 // Whether nothing came out yet.
+#[tactic(auto, unfolding(crate::specs::Reader::handed, crate::specs::Reader::is_more))]
 pub fn is_more(got: Got) -> bool
     ensures { result ≡ is_more (handed got) }
 {
-    match got {
-        Got::More => true,
-        Got::Head(_) => false,
-        Got::Record(_) => false,
-        Got::Gap => false,
-        Got::End => false,
-        Got::Refused(_) => false,
-    }
+    matches!(got, Got::More)
 }
 
 // The head that bytes begin with: in the version that they say, where any is taken, and otherwise in the one that is.
-fn head_of(any: bool, version: Version, bytes: &[u8]) -> HeadRead
-    ensures { result ≡ read_head (asked any version bytes.now) bytes.now }
+#[tactic(auto, using(strip_format::specs::Laws::Answers::head_read_is), unfolding(crate::specs::Reader::asked))]
+fn head_of(any: bool, version: Version, bytes: &[u8]) -> Result<Head, Refusal>
+    ensures { head_read_of result ≡ read_head (asked any version bytes.now) bytes.now }
 {
     if any {
         read_head(bytes)
@@ -86,137 +83,127 @@ fn head_of(any: bool, version: Version, bytes: &[u8]) -> HeadRead
 
 // A reader holds so many bytes with the last one. A head that is whole comes out; one that is refused ends the strip; where
 // bytes are missing, they are waited for.
-fn with_head(reader: Reader, held: [u8; HEAD_BYTES], count: usize, read: HeadRead) -> Step
-    ensures { step_of result ≡ head_fed reader held count read }
+#[tactic(auto, unfolding(crate::specs::Reader::step_of, crate::specs::Reader::handed, crate::specs::Reader::head_fed, strip_format::specs::Calls::head_read_of, strip_format::specs::Calls::refused_head, units::specs::Handed::number_of))]
+fn with_head(
+    reader: Reader,
+    held: [u8; HEAD_BYTES],
+    count: usize,
+    read: Result<Head, Refusal>,
+) -> Step
+    ensures { step_of result ≡ head_fed reader held count (head_read_of read) }
 {
-    let any = reader.any;
-    let version = reader.version;
-    let head = read.head;
-    let said = head.version;
-    if read.reply == CUT {
-        Step {
+    match read {
+        Ok(head) => Step {
+            reader: Reader {
+                held,
+                count: 0,
+                stage: Stage::Records,
+                version: head.version,
+                ..reader
+            },
+            got: Got::Head(head),
+        },
+        Err(Refusal::Cut) => Step {
             reader: Reader {
                 held,
                 count,
-                stage: HEAD,
-                any,
-                version,
+                stage: Stage::Head,
+                ..reader
             },
             got: Got::More,
-        }
-    } else {
-        if read.reply == DONE {
-            Step {
-                reader: Reader {
-                    held,
-                    count: 0,
-                    stage: RECORDS,
-                    any,
-                    version: said,
-                },
-                got: Got::Head(head),
-            }
-        } else {
-            Step {
-                reader: Reader {
-                    held,
-                    count: 0,
-                    stage: OVER,
-                    any,
-                    version,
-                },
-                got: Got::Refused(read.reply),
-            }
-        }
+        },
+        Err(refusal) => Step {
+            reader: Reader {
+                held,
+                count: 0,
+                stage: Stage::Over,
+                ..reader
+            },
+            got: Got::Refused(refusal),
+        },
     }
 }
 
-// The same of a record.
-fn with_record(reader: Reader, held: [u8; HEAD_BYTES], count: usize, read: RecordRead) -> Step
+// The same of a record. There is a byte at least, so the strip does not end there.
+#[tactic(auto, unfolding(crate::specs::Reader::step_of, crate::specs::Reader::handed, crate::specs::Reader::record_fed, crate::specs::Reader::record_found, strip_format::specs::Calls::read_of, units::specs::Handed::number_of))]
+fn with_record(
+    reader: Reader,
+    held: [u8; HEAD_BYTES],
+    count: usize,
+    read: Result<Option<Entry>, Refusal>,
+) -> Step
+    requires { read ≢ Ok None }
     ensures { step_of result ≡ record_fed reader held count (read_of read) }
 {
-    let any = reader.any;
-    let version = reader.version;
-    let found = read.found;
-    if read.reply == CUT {
-        Step {
+    match read {
+        Ok(Some(entry)) => Step {
+            reader: Reader {
+                held,
+                count: 0,
+                stage: Stage::Records,
+                ..reader
+            },
+            got: match entry {
+                Entry::Record(figures) => Got::Record(figures),
+                Entry::Gap => Got::Gap,
+            },
+        },
+        Ok(None) | Err(Refusal::Cut) => Step {
             reader: Reader {
                 held,
                 count,
-                stage: RECORDS,
-                any,
-                version,
+                stage: Stage::Records,
+                ..reader
             },
             got: Got::More,
-        }
-    } else {
-        match found {
-            Found::None => Step {
-                reader: Reader {
-                    held,
-                    count: 0,
-                    stage: OVER,
-                    any,
-                    version,
-                },
-                got: Got::Refused(read.reply),
+        },
+        Err(refusal) => Step {
+            reader: Reader {
+                held,
+                count: 0,
+                stage: Stage::Over,
+                ..reader
             },
-            Found::Record(figures) => Step {
-                reader: Reader {
-                    held,
-                    count: 0,
-                    stage: RECORDS,
-                    any,
-                    version,
-                },
-                got: Got::Record(figures),
-            },
-            Found::Gap => Step {
-                reader: Reader {
-                    held,
-                    count: 0,
-                    stage: RECORDS,
-                    any,
-                    version,
-                },
-                got: Got::Gap,
-            },
-        }
+            got: Got::Refused(refusal),
+        },
     }
 }
 
 impl Reader {
     // A reader that has seen no byte, of a strip of any version.
+    #[tactic(auto, unfolding(crate::specs::Reader::fresh, crate::specs::Reader::begun))]
     pub fn new() -> Reader
         ensures { result ≡ fresh }
     {
         Reader {
             held: [0; HEAD_BYTES],
             count: 0,
-            stage: HEAD,
+            stage: Stage::Head,
             any: true,
             version: Version::One,
         }
     }
 
     // A reader that has seen no byte, of a strip of one version: another is refused with 7.
+    #[tactic(auto, unfolding(crate::specs::Reader::fresh_in, crate::specs::Reader::begun))]
     pub fn of(version: Version) -> Reader
         ensures { result ≡ fresh_in version }
     {
         Reader {
             held: [0; HEAD_BYTES],
             count: 0,
-            stage: HEAD,
+            stage: Stage::Head,
             any: false,
             version,
         }
     }
 
-    // Whether a handed-in reader passes: there is room for one more byte, and it waits for something that there is.
+    // Whether a handed-in reader passes: there is room for one more byte.
+    #[tactic(auto, unfolding(crate::specs::Reader::passes))]
     pub fn passes(self) -> bool
         ensures { result ≡ passes self }
     {
-        (self.count < HEAD_BYTES) & (self.stage <= OVER)
+        self.count < HEAD_BYTES
     }
 
     // Takes the next byte of the strip. A reader that fails its test is refused with 4 and stays as it is; after a
@@ -224,53 +211,45 @@ impl Reader {
     pub fn take(self, byte: u8) -> Step
         ensures { step_of result ≡ fed self byte }
     {
-        let stage = self.stage;
-        let version = self.version;
-        let at = self.count;
-        if self.passes() {
-            if stage == OVER {
-                Step {
-                    reader: self,
-                    got: Got::More,
-                }
-            } else {
-                let mut held = self.held;
-                held[at] = byte;
-                let n = at + 1;
-                if stage == HEAD {
-                    let read = head_of(self.any, version, &held[..n]);
-                    with_head(self, held, n, read)
-                } else {
-                    let read = read_record(version, &held[..n], 0);
-                    with_record(self, held, n, read)
-                }
-            }
-        } else {
-            Step {
+        if !self.passes() {
+            return Step {
                 reader: self,
-                got: Got::Refused(SETTING),
+                got: Got::Refused(Refusal::Setting),
+            };
+        }
+        let at = self.count;
+        let n = at + 1;
+        let mut held = self.held;
+        held[at] = byte;
+        match self.stage {
+            Stage::Head => {
+                let read = head_of(self.any, self.version, &held[..n]);
+                with_head(self, held, n, read)
             }
+            Stage::Records => {
+                let read = read_record(self.version, &held[..n], 0);
+                with_record(self, held, n, read)
+            }
+            Stage::Over => Step {
+                reader: self,
+                got: Got::More,
+            },
         }
     }
 
     // What the end of the strip gives: the end after a whole record or the head alone, 5 inside of one; nothing after a
     // refusal. A reader that fails its test is refused with 4.
+    #[tactic(auto, unfolding(crate::specs::Reader::handed, crate::specs::Reader::finished, units::specs::Handed::number_of))]
     pub fn finish(self) -> Got
         ensures { handed result ≡ finished self }
     {
-        let stage = self.stage;
-        if self.passes() {
-            if stage == OVER {
-                Got::More
-            } else {
-                if (stage == RECORDS) & (self.count == 0) {
-                    Got::End
-                } else {
-                    Got::Refused(CUT)
-                }
-            }
-        } else {
-            Got::Refused(SETTING)
+        if !self.passes() {
+            return Got::Refused(Refusal::Setting);
+        }
+        match self.stage {
+            Stage::Records if self.count == 0 => Got::End,
+            Stage::Head | Stage::Records => Got::Refused(Refusal::Cut),
+            Stage::Over => Got::More,
         }
     }
 
@@ -279,20 +258,24 @@ impl Reader {
         ensures { next_of result ≡ next self (drop at block.now) }
     {
         let mut reader = self;
-        let mut got = Got::More;
-        let mut waits = true;
-        let mut i = at;
-        while (i < block.len()) & waits {
-            let step = reader.take(block[i]);
-            got = step.got;
+        let mut used = 0;
+        let start = at.min(block.len());
+        for &byte in &block[start..] {
+            let step = reader.take(byte);
             reader = step.reader;
-            waits = is_more(got);
-            i += 1;
+            used += 1;
+            if !is_more(step.got) {
+                return Next {
+                    reader,
+                    used,
+                    got: step.got,
+                };
+            }
         }
         Next {
             reader,
-            used: i - at,
-            got,
+            used,
+            got: Got::More,
         }
     }
 }
