@@ -9,9 +9,24 @@ use Rattle.frames.specs.Samples.{largest_level}
 use Rattle.frames.specs.Refusal.{frame_refusal}
 use Rattle.fixed_digital_level_estimator.specs.Envelope.{silence, peaks_over, raised, smoothed, linear}
 use Rattle.fixed_digital_level_estimator.specs.declared.Estimator.{Estimator}
-use Rattle.fixed_digital_level_estimator.specs.declared.Next.{Next}
-use Rattle.fixed_digital_level_estimator.specs.declared.Levels.{Levels}
-use Rattle.fixed_digital_level_estimator.specs.declared.Heard.{Heard}
+use Rattle.units.specs.declared.kinds.LinearS16.{LinearS16}
+use Rattle.fixed_digital_level_estimator.specs.declared.Levels.{Levels as Told}
+
+-- a reply's number, and the estimator that goes on from there: the one that came in where it is refused, and all 0 where it is a new one
+pub record Next : Type 0 where
+  pub reply : ℕ
+  pub estimator : Estimator
+
+-- a reply's number, the estimator that goes on from there, and the envelope: all 0 where it is refused
+pub record Levels : Type 0 where
+  pub reply : ℕ
+  pub estimator : Estimator
+  pub envelope : List LinearS16
+
+-- a reply's number, and a level: 0 where it is refused
+pub record Heard : Type 0 where
+  pub reply : ℕ
+  pub level : LinearS16
 
 -- "envelope 0 to 33554432; .. samples a shape's; sub-frame length .. as [its] rule gives": a twentieth
 unfoldable pub passes : Estimator → Bool
@@ -51,6 +66,10 @@ computed e frame channels samples =
       estimator = cond (eqb reply done) (heard_up_to e envelope) e;
       envelope = linear (cond (eqb reply done) envelope silence);
     }
+
+-- what is handed out of a frame that is taken
+abbrev pub told : Levels → Told
+told l = record { estimator = l.estimator; envelope = l.envelope }
 
 -- other samples: the level stays
 unfoldable pub changed : Estimator → ℕ → Next

@@ -3,13 +3,15 @@
 
 #![tactic(auto)]
 
-ghost use Rattle.std.specs.Prelude.{◌≡◌, true, List, ◌*◌, ◌≤◌, ◌+◌, ◌%◌, length, drop};
+ghost use Rattle.std.specs.Prelude.{◌≡◌, cond, Some, None, List, ◌*◌, ◌≤◌, ◌+◌, ◌%◌, length, drop};
+ghost use Rattle.units.specs.Handed.{handed};
 ghost use Rattle.frames.specs.Samples.{largest_level, all_within};
 ghost use Rattle.fixed_digital_level_estimator.specs.Lanes.{Raised, column, peak};
 ghost use Rattle.fixed_digital_level_estimator.specs.Envelope.{peaks_over, raised, smoothed, silence, decayed, linear};
-ghost use Rattle.fixed_digital_level_estimator.specs.Estimator.{passes, made, computed, changed, cleared, heard};
+ghost use Rattle.fixed_digital_level_estimator.specs.Estimator.{passes, none, made, computed, told, changed, cleared, heard};
 
 use units::kinds::LinearS16;
+use units::refusals::{Refusal, check};
 
 // How much of a level is kept from one sub-frame to the next while it falls.
 const DECAY: f32 = 0.9971259;
@@ -27,27 +29,11 @@ pub struct Estimator {
     pub part: usize,
 }
 
-// A reply's number, and the estimator that goes on from there: the one that came in where it is
-// refused, and all 0 where it is a new one.
-#[derive(Clone, Copy)]
-pub struct Next {
-    pub reply: u32,
-    pub estimator: Estimator,
-}
-
-// A reply's number, the estimator that goes on from there, and the envelope: all 0 where it is refused.
+// The envelope of a frame, and the estimator that goes on from there.
 #[derive(Clone, Copy)]
 pub struct Levels {
-    pub reply: u32,
     pub estimator: Estimator,
     pub envelope: [LinearS16; 20],
-}
-
-// A reply's number, and a level: 0 where it is refused.
-#[derive(Clone, Copy)]
-pub struct Heard {
-    pub reply: u32,
-    pub level: LinearS16,
 }
 
 // What was found so far in every fourth sample each, since the machine takes four at a time: the
@@ -66,13 +52,6 @@ struct Lanes {
     t: f32,
     u: f32,
     v: f32,
-}
-
-// The peaks of a frame, and whether all its samples are within the bound.
-#[derive(Clone, Copy)]
-struct Peaks {
-    tame: bool,
-    peaks: [f32; 20],
 }
 
 // Each lane raised by its sample of four.
@@ -201,11 +180,11 @@ fn largest(lanes: Lanes) -> f32
     floats::larger(0.0 - low, high)
 }
 
-// The largest magnitudes of the twenty sub-frames over all channels, and whether each sample is within
-// the bound: whatever the samples are, it looks at each once.
-fn frame_peaks(frame: &[f32], channels: usize, samples: usize, part: usize) -> Peaks
+// The largest magnitudes of the twenty sub-frames over all channels, where each sample is within the
+// bound: whatever the samples are, it looks at each once.
+fn frame_peaks(frame: &[f32], channels: usize, samples: usize, part: usize) -> Option<[f32; 20]>
     requires { (length frame.now ≡ channels * samples) × (samples ≡ 20 * part) }
-    ensures { (result.tame ≡ all_within largest_level frame.now) × (result.tame ≡ true → result.peaks ≡ peaks_over channels samples part silence frame.now) }
+    ensures { result ≡ cond (all_within largest_level frame.now) (Some (peaks_over channels samples part silence frame.now)) None }
 {
     let mut peaks = [0.0; 20];
     let mut highest = 0.0;
@@ -246,7 +225,7 @@ fn frame_peaks(frame: &[f32], channels: usize, samples: usize, part: usize) -> P
         & floats::is_finite(t)
         & floats::is_finite(u)
         & floats::is_finite(v);
-    Peaks { tame, peaks }
+    if tame { Some(peaks) } else { None }
 }
 
 // Each value but the last raised to its right neighbour, as that came in, where that is larger.
@@ -288,21 +267,28 @@ fn smooth(level: f32, found: [f32; 20]) -> [LinearS16; 20]
 }
 
 impl Estimator {
-    // An estimator for channels of so many samples; reply 1 where no frame has so many.
-    pub fn new(samples: usize) -> Next
-        ensures { result ≡ made samples }
+    // An estimator with all fields 0: it does not pass.
+    pub fn none() -> Estimator
+        ensures { result ≡ none }
     {
-        let ok = frames::is_samples(samples);
-        let reply = units::replies::refusal(ok, true, true, true);
-        let s = floats::pick(ok, samples, 0);
-        Next {
-            reply,
-            estimator: Estimator {
-                level: 0.0,
-                samples: s,
-                part: s / 20,
-            },
+        Estimator {
+            level: 0.0,
+            samples: 0,
+            part: 0,
         }
+    }
+
+    // An estimator for channels of so many samples; refused with 1 where no frame has so many.
+    pub fn new(samples: usize) -> Result<Estimator, Refusal>
+        ensures { result ≡ handed (made samples).reply (made samples).estimator }
+    {
+        check(frames::is_samples(samples), true, true, true)?;
+        let part = samples / 20;
+        Ok(Estimator {
+            level: 0.0,
+            samples,
+            part,
+        })
     }
 
     // Whether a handed-in state passes: a level from 0 to 33554432, samples that a frame can have, and
@@ -316,96 +302,53 @@ impl Estimator {
     }
 
     // The envelope of a frame, and the state after it; refused with 1, 4 or 3.
-    pub fn compute_level(self, frame: &[f32], channels: usize, samples: usize) -> Levels
-        ensures { result ≡ computed self frame.now channels samples }
+    pub fn compute_level(
+        self,
+        frame: &[f32],
+        channels: usize,
+        samples: usize,
+    ) -> Result<Levels, Refusal>
+        ensures { result ≡ handed (computed self frame.now channels samples).reply (told (computed self frame.now channels samples)) }
     {
-        let level = self.level;
-        let set = self.samples;
-        let part = self.part;
-        let ok = self.passes();
-        let shape = frames::is_shape(channels, samples, frame.len()) & (samples == set);
-        if shape & ok {
-            let found = frame_peaks(frame, channels, samples, part);
-            let peaks = found.peaks;
-            let reply = units::replies::refusal(true, true, true, found.tame);
-            if found.tame {
-                let envelope = smooth(level, raise(peaks));
-                let last = envelope[19].0;
-                Levels {
-                    reply,
-                    estimator: Estimator {
-                        level: last,
-                        samples: set,
-                        part,
-                    },
-                    envelope,
-                }
-            } else {
-                Levels {
-                    reply,
-                    estimator: self,
-                    envelope: [LinearS16(0.0); 20],
-                }
-            }
-        } else {
-            let reply = units::replies::refusal(shape, ok, true, true);
-            Levels {
-                reply,
-                estimator: self,
-                envelope: [LinearS16(0.0); 20],
-            }
-        }
+        let shape = frames::is_shape(channels, samples, frame.len()) & (samples == self.samples);
+        check(shape, self.passes(), true, true)?;
+        let peaks = frame_peaks(frame, channels, samples, self.part).ok_or(Refusal::Sample)?;
+        let envelope = smooth(self.level, raise(peaks));
+        Ok(Levels {
+            estimator: Estimator {
+                level: envelope[19].0,
+                ..self
+            },
+            envelope,
+        })
     }
 
     // The estimator for channels of so many samples, at the same level; refused with 1 or 4.
-    pub fn set_samples_per_channel(self, samples: usize) -> Next
-        ensures { result ≡ changed self samples }
+    pub fn set_samples_per_channel(self, samples: usize) -> Result<Estimator, Refusal>
+        ensures { result ≡ handed (changed self samples).reply (changed self samples).estimator }
     {
-        let ok = self.passes();
-        let shape = frames::is_samples(samples);
-        let reply = units::replies::refusal(shape, ok, true, true);
-        if shape & ok {
-            Next {
-                reply,
-                estimator: Estimator {
-                    level: self.level,
-                    samples,
-                    part: samples / 20,
-                },
-            }
-        } else {
-            Next {
-                reply,
-                estimator: self,
-            }
-        }
+        check(frames::is_samples(samples), self.passes(), true, true)?;
+        Ok(Estimator {
+            samples,
+            part: samples / 20,
+            ..self
+        })
     }
 
     // The estimator at level 0; a state that fails its test is refused with 4.
-    pub fn reset(self) -> Next
-        ensures { result ≡ cleared self }
+    pub fn reset(self) -> Result<Estimator, Refusal>
+        ensures { result ≡ handed (cleared self).reply (cleared self).estimator }
     {
-        let ok = self.passes();
-        let reply = units::replies::refusal(true, ok, true, true);
-        let level = floats::pick(ok, 0.0, self.level);
-        Next {
-            reply,
-            estimator: Estimator {
-                level,
-                samples: self.samples,
-                part: self.part,
-            },
-        }
+        check(true, self.passes(), true, true)?;
+        Ok(Estimator { level: 0.0, ..self })
     }
 
     // The envelope's last value; a state that fails its test is refused with 4.
-    pub fn last_audio_level(self) -> Heard
-        ensures { result ≡ heard self }
+    pub fn last_audio_level(self) -> Result<LinearS16, Refusal>
+        ensures { result ≡ handed (heard self).reply (heard self).level }
     {
         let ok = self.passes();
-        Heard {
-            reply: units::replies::refusal(true, ok, true, true),
-            level: LinearS16(floats::pick(ok, self.level, 0.0)),
-        }
+        check(true, ok, true, true)?;
+        Ok(LinearS16(self.level))
     }
 }

@@ -5,8 +5,27 @@ use Rattle.units.specs.Figures.{curve_level}
 use Rattle.units.specs.Replies.{refusal}
 use Rattle.interpolated_gain_curve.specs.Gain.{identity, knee, limiter, saturation, region_of, gain_of}
 use Rattle.interpolated_gain_curve.specs.declared.Curve.{Curve}
-use Rattle.interpolated_gain_curve.specs.declared.Looked.{Looked}
-use Rattle.interpolated_gain_curve.specs.declared.Read.{Read}
+use Rattle.interpolated_gain_curve.specs.declared.Looked.{Looked as Told}
+use Rattle.interpolated_gain_curve.specs.declared.Region.{Region}
+use Rattle.interpolated_gain_curve.specs.declared.Region.TheVariants as R
+
+-- a reply's number, the curve that goes on from there, and the gain: 0 where it is refused
+pub record Looked : Type 0 where
+  pub reply : ℕ
+  pub curve : Curve
+  pub gain : Float
+
+-- a reply's number, and the statistics: all 0 and false where they are refused
+pub record Read : Type 0 where
+  pub reply : ℕ
+  pub stats : Curve
+
+-- the number of each region
+unfoldable pub number_of : Region → ℕ
+number_of R.Identity = identity
+number_of R.Knee = knee
+number_of R.Limiter = limiter
+number_of R.Saturation = saturation
 
 -- a new curve, and what a refused call hands out: all 0, false and identity
 unfoldable pub fresh : Curve
@@ -59,6 +78,10 @@ looked c level =
       curve = cond ok (in_region c (region_of level)) c;
       gain = cond ok (gain_of level) (from_bits binary32 0x0000_0000);
     }
+
+-- what an accepted look-up hands out
+abbrev pub told : Looked → Told
+told l = record { curve = l.curve; gain = l.gain }
 
 unfoldable pub read : Curve → Read
 unfolding refusal passes fresh

@@ -3,9 +3,8 @@ use Rattle.std.specs.Prelude.{◌≡◌, ℕ, ◌-◌, ◌^◌, true, pos, refl,
 use Rattle.std.specs.Float.{binary32}
 use Rattle.std.specs.Float.Ieee.{of_bits, le, lt, eq, div, size as bits}
 use Rattle.units.specs.Replies.{done, bad_figure, refusal}
-use Rattle.interpolated_gain_curve.specs.declared.Looked.{Looked}
 use Rattle.interpolated_gain_curve.specs.Gain.{knot_bits, knots, identity, knee, limiter, saturation, region_of, last_below, piece_of, on_piece, gain_of}
-use Rattle.interpolated_gain_curve.specs.Curve.{fresh, passes, not_negative, counted, lasting, longer, in_region, looked}
+use Rattle.interpolated_gain_curve.specs.Curve.{Looked, fresh, passes, not_negative, counted, lasting, longer, in_region, looked}
 
 -- what a look-up answers that is done: the gain, and the region that the level is counted in
 pub record Answers (r : Looked) (g : Float) (n : ℕ) : Type 0 where

@@ -4,23 +4,21 @@
 #![tactic(auto)]
 
 ghost use Rattle.std.specs.Prelude.{◌≡◌, T};
+ghost use Rattle.units.specs.Handed.{handed};
 ghost use Rattle.interpolated_gain_curve.specs.Gain.{gain_of, region_of, piece_of};
-ghost use Rattle.interpolated_gain_curve.specs.Curve.{fresh, passes, not_negative, counted, lasting, in_region, looked, read};
+ghost use Rattle.interpolated_gain_curve.specs.Curve.{number_of, fresh, passes, not_negative, lasting, in_region, looked, told, read};
 
 use units::kinds::LinearS16;
-use units::replies::{DONE, SETTING};
+use units::refusals::{Refusal, check};
 
-// The regions, by the Rust's own numbers.
-pub const IDENTITY: u32 = 0;
-
-pub const KNEE: u32 = 1;
-
-pub const LIMITER: u32 = 2;
-
-pub const SATURATION: u32 = 3;
-
-// The longest duration that is counted: the largest i64.
-const LONGEST: i64 = 9223372036854775807;
+// Where a level lies, by the Rust's own numbers.
+#[derive(Clone, Copy, Debug, PartialEq, Eq)]
+pub enum Region {
+    Identity = 0,
+    Knee = 1,
+    Limiter = 2,
+    Saturation = 3,
+}
 
 // From this level on the gain is 32768/level: the Rust's MAX_INPUT_LEVEL_LINEAR.
 const LARGEST_LEVEL: f32 = 36766.3;
@@ -80,6 +78,9 @@ const INTERCEPTS: [f32; 32] = [
 // How many levels lay in each region, whether there was one, the region of the last one, and how
 // many look-ups long it has been that region: the Rust's Stats. A count rolls over to 0 after the
 // largest; the duration is held at its largest.
+//
+// `available` and `region` are the Rust's fields and those of the C struct that a curve is kept in. C may hand in any
+// number of a region, which `passes` tests, so it is no Region here.
 #[derive(Clone, Copy)]
 pub struct Curve {
     pub identity: u64,
@@ -91,20 +92,11 @@ pub struct Curve {
     pub duration: i64,
 }
 
-// A reply's number, the curve that goes on from there (the one that came in where it is refused), and
-// the gain: 0 where it is refused.
+// The gain of a level, and the curve that has counted it.
 #[derive(Clone, Copy)]
 pub struct Looked {
-    pub reply: u32,
     pub curve: Curve,
     pub gain: f32,
-}
-
-// A reply's number, and the statistics: all 0 and false where it is refused.
-#[derive(Clone, Copy)]
-pub struct Read {
-    pub reply: u32,
-    pub stats: Curve,
 }
 
 impl Curve {
@@ -118,7 +110,7 @@ impl Curve {
             limiter: 0,
             saturation: 0,
             available: false,
-            region: IDENTITY,
+            region: Region::Identity as u32,
             duration: 0,
         }
     }
@@ -127,77 +119,49 @@ impl Curve {
     pub fn passes(self) -> bool
         ensures { result ≡ passes self }
     {
-        (self.region <= SATURATION) & (0 <= self.duration)
+        (self.region <= Region::Saturation as u32) & (0 <= self.duration)
     }
 
     // The gain of a level from 0 to 33554432, with the level counted. Any other level is refused with
     // 2, after a state that fails its test, with 4; then nothing is counted.
-    pub fn look_up_gain_to_apply(self, level: LinearS16) -> Looked
-        ensures { result ≡ looked self level.0 }
+    pub fn look_up_gain_to_apply(self, level: LinearS16) -> Result<Looked, Refusal>
+        ensures { result ≡ handed (looked self level.0).reply (told (looked self level.0)) }
     {
         let x = level.0;
         let state = self.passes();
-        let figure = units::figures::is_curve_level(LinearS16(x));
-        let reply = units::replies::refusal(true, state, figure, true);
-        if state & figure {
-            let next = self.in_region(region_of(x));
-            Looked {
-                reply: reply,
-                curve: next,
-                gain: gain_of(x),
-            }
-        } else {
-            Looked {
-                reply: reply,
-                curve: self,
-                gain: 0.0,
-            }
-        }
+        let figure = units::figures::is_curve_level(level);
+        check(true, state, figure, true)?;
+        Ok(Looked {
+            curve: self.in_region(region_of(x)),
+            gain: gain_of(x),
+        })
     }
 
     // The statistics. A state that fails its test is refused with 4.
-    pub fn get_stats(self) -> Read
-        ensures { result ≡ read self }
+    pub fn get_stats(self) -> Result<Curve, Refusal>
+        ensures { result ≡ handed (read self).reply (read self).stats }
     {
-        if self.passes() {
-            Read {
-                reply: DONE,
-                stats: self,
-            }
-        } else {
-            let none = Curve::new();
-            Read {
-                reply: SETTING,
-                stats: none,
-            }
-        }
+        check(true, self.passes(), true, true)?;
+        Ok(self)
     }
 
     // The state after a level in this region: the Rust's update_stats.
-    fn in_region(self, now: u32) -> Curve
+    fn in_region(self, now: Region) -> Curve
         requires { T (passes self) }
-        ensures { result ≡ in_region self now }
+        ensures { result ≡ in_region self (number_of now) }
     {
-        Curve {
-            identity: counted(now == IDENTITY, self.identity),
-            knee: counted(now == KNEE, self.knee),
-            limiter: counted(now == LIMITER, self.limiter),
-            saturation: counted(now == SATURATION, self.saturation),
-            available: true,
-            region: now,
-            duration: lasting(now, self.region, self.duration),
+        let number = now as u32;
+        let mut next = self;
+        match now {
+            Region::Identity => next.identity = self.identity.wrapping_add(1),
+            Region::Knee => next.knee = self.knee.wrapping_add(1),
+            Region::Limiter => next.limiter = self.limiter.wrapping_add(1),
+            Region::Saturation => next.saturation = self.saturation.wrapping_add(1),
         }
-    }
-}
-
-// A count with one more where the level lay here; after the largest it is 0.
-fn counted(here: bool, n: u64) -> u64
-    ensures { result ≡ counted here n }
-{
-    if here {
-        std::num::wrapping_add_u64(n, 1)
-    } else {
-        n
+        next.available = true;
+        next.region = number;
+        next.duration = lasting(number, self.region, self.duration);
+        next
     }
 }
 
@@ -208,42 +172,35 @@ fn lasting(now: u32, before: u32, duration: i64) -> i64
     ensures { result ≡ lasting now before duration }
 {
     if now == before {
-        if duration < LONGEST {
-            duration + 1
-        } else {
-            duration
-        }
+        duration.saturating_add(1)
     } else {
         0
     }
 }
 
 // The region of a level, by strict comparison.
-fn region_of(level: f32) -> u32
-    ensures { result ≡ region_of level }
+fn region_of(level: f32) -> Region
+    ensures { number_of result ≡ region_of level }
 {
     if level < KNOTS[0] {
-        IDENTITY
+        Region::Identity
     } else if level < KNOTS[21] {
-        KNEE
+        Region::Knee
     } else if level < LARGEST_LEVEL {
-        LIMITER
+        Region::Limiter
     } else {
-        SATURATION
+        Region::Saturation
     }
 }
 
 // The largest i whose knot is strictly below the level, and 0 where there is none: a search from the
-// first knot to the last.
+// first knot to the last, which takes no branch.
 fn piece_of(level: f32) -> usize
     ensures { result ≡ piece_of level }
 {
-    let knots = KNOTS;
-    let mut piece: usize = 0;
-    let mut i = 0;
-    while i < 32 {
-        piece = floats::pick(knots[i] < level, i, piece);
-        i += 1;
+    let mut piece = 0;
+    for (i, knot) in KNOTS.iter().enumerate() {
+        piece = floats::pick(*knot < level, i, piece);
     }
     piece
 }

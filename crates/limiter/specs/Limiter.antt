@@ -14,8 +14,17 @@ use Rattle.fixed_digital_level_estimator.specs.declared.Estimator.{Estimator}
 use Rattle.fixed_digital_level_estimator.specs.Estimator as Estimators
 use Rattle.limiter.specs.Factors.{factors, limited}
 use Rattle.limiter.specs.declared.Limiter.{Limiter}
-use Rattle.limiter.specs.declared.Next.{Next}
-use Rattle.limiter.specs.declared.Heard.{Heard}
+use Rattle.units.specs.declared.kinds.LinearS16.{LinearS16}
+
+-- a reply's number, and the limiter that goes on from there: the one that came in where it is refused, and all 0, false and identity where it is a new one
+pub record Next : Type 0 where
+  pub reply : ℕ
+  pub limiter : Limiter
+
+-- a reply's number, and a level: 0 where it is refused
+pub record Heard : Type 0 where
+  pub reply : ℕ
+  pub level : LinearS16
 
 -- "carried factor above 0, below 2"
 abbrev pub carried_factor : Float → Bool

@@ -3,19 +3,21 @@
 
 #![tactic(auto)]
 
-ghost use Rattle.std.specs.Prelude.{◌≡◌, ◌*◌, ◌≤◌, ◌<◌, ◌+◌, length, take};
+ghost use Rattle.std.specs.Prelude.{◌≡◌, ◌*◌, ◌≤◌, ◌<◌, ◌+◌, T, OnOk, length, take};
 ghost use Rattle.frames.specs.Parts.{each_part};
-ghost use Rattle.units.specs.Replies.{done};
+ghost use Rattle.units.specs.Handed.{handed};
 ghost use Rattle.lists.specs.Each.{Each};
+ghost use Rattle.interpolated_gain_curve.specs.Curve as Curves;
 ghost use Rattle.fixed_digital_level_estimator.specs.Envelope.{plain};
+ghost use Rattle.fixed_digital_level_estimator.specs.Range.{Level};
 ghost use Rattle.limiter.specs.Scale.{FullScale, Finite};
-ghost use Rattle.limiter.specs.Limiter.{gains_of, curve_after, passes, made, processed, changed, cleared, heard};
+ghost use Rattle.limiter.specs.Limiter.{gains_of, curve_after, passes, none, made, processed, changed, cleared, heard};
 ghost use Rattle.limiter.specs.Factors.{whole, line, straight, eighth, curved, first_part, later_parts, factors, limited};
 
 use fixed_digital_level_estimator::Estimator;
 use interpolated_gain_curve::Curve;
 use units::kinds::LinearS16;
-use units::replies::{DONE, SETTING, SHAPE};
+use units::refusals::{Refusal, check};
 
 // The ends of a sample of 16 bits.
 const LOWEST: f32 = -32768.0;
@@ -31,21 +33,6 @@ pub struct Limiter {
     pub estimator: Estimator,
     pub curve: Curve,
     pub carried: f32,
-}
-
-// A reply's number, and the limiter that goes on from there: the one that came in where it is refused,
-// and all 0, false and identity where it is a new one.
-#[derive(Clone, Copy)]
-pub struct Next {
-    pub reply: u32,
-    pub limiter: Limiter,
-}
-
-// A reply's number, and a level: 0 where it is refused.
-#[derive(Clone, Copy)]
-pub struct Heard {
-    pub reply: u32,
-    pub level: LinearS16,
 }
 
 // The eighth power, by three squarings.
@@ -160,20 +147,17 @@ struct Gains {
     gains: [f32; 20],
 }
 
-// Looks twenty levels up, one after the other.
+// Looks twenty levels up, one after the other. None is refused.
 fn look_up(curve: Curve, levels: [LinearS16; 20]) -> Gains
+    requires { T (Curves.passes curve) × Each Level (plain levels) }
     ensures { (result.gains ≡ gains_of curve (plain levels)) × (result.curve ≡ curve_after curve (plain levels)) }
 {
     let mut gains = [0.0; 20];
     let mut counted = curve;
-    let mut k = 0;
-    while k < 20 {
-        let level = levels[k];
-        let answer = counted.look_up_gain_to_apply(level);
-        let next = answer.curve;
-        gains[k] = answer.gain;
-        counted = next;
-        k += 1;
+    for (k, level) in levels.iter().enumerate() {
+        let looked = counted.look_up_gain_to_apply(*level).unwrap();
+        gains[k] = looked.gain;
+        counted = looked.curve;
     }
     Gains {
         curve: counted,
@@ -209,25 +193,27 @@ fn channel_factors(samples: usize, part: usize, carried: f32, gains: [f32; 20]) 
 }
 
 impl Limiter {
-    // A limiter for channels of so many samples, at factor 1; reply 1 where no frame has so many.
-    pub fn new(samples: usize) -> Next
-        ensures { result ≡ made samples }
+    // A limiter with all fields 0, false and identity: it does not pass.
+    pub fn none() -> Limiter
+        ensures { result ≡ none }
     {
-        let ok = frames::is_samples(samples);
-        let reply = units::replies::refusal(ok, true, true, true);
-        let s = floats::pick(ok, samples, 0);
-        Next {
-            reply,
-            limiter: Limiter {
-                estimator: Estimator {
-                    level: 0.0,
-                    samples: s,
-                    part: s / 20,
-                },
-                curve: Curve::new(),
-                carried: floats::pick(ok, 1.0, 0.0),
-            },
+        Limiter {
+            estimator: Estimator::none(),
+            curve: Curve::new(),
+            carried: 0.0,
         }
+    }
+
+    // A limiter for channels of so many samples, at factor 1; refused with 1 where no frame has so many.
+    pub fn new(samples: usize) -> Result<Limiter, Refusal>
+        ensures { result ≡ handed (made samples).reply (made samples).limiter }
+    {
+        let estimator = Estimator::new(samples)?;
+        Ok(Limiter {
+            estimator,
+            curve: Curve::new(),
+            carried: 1.0,
+        })
     }
 
     // Whether a handed-in state passes: its estimator and its curve do, and the carried factor lies above
@@ -242,115 +228,58 @@ impl Limiter {
     }
 
     // Limits a frame where it stands; refused with 1, 4 or 3, and then the frame stays as it was.
-    pub fn process(self, frame: &mut [f32], channels: usize, samples: usize) -> Next
-        ensures value { result ≡ (processed self frame.old channels samples).next }
+    pub fn process(
+        self,
+        frame: &mut [f32],
+        channels: usize,
+        samples: usize,
+    ) -> Result<Limiter, Refusal>
+        ensures value { result ≡ handed (processed self frame.old channels samples).next.reply (processed self frame.old channels samples).next.limiter }
         ensures frame_after { frame.new ≡ (processed self frame.old channels samples).frame }
-        ensures scale { result.reply ≡ done → FullScale frame.new }
+        ensures scale { OnOk result (FullScale frame.new) }
     {
-        let ok = self.passes();
-        let estimator = self.estimator;
-        let curve = self.curve;
-        let carried = self.carried;
-        let part = estimator.part;
-        // The estimator has tested the frame and its own state: its reply is the limiter's, but where
-        // another part of the state fails.
-        let found = estimator.compute_level(frame, channels, samples);
-        let first = found.reply;
-        let reply = floats::pick(ok | (first == SHAPE), first, SETTING);
-        if reply == DONE {
-            let levels = found.envelope;
-            let next = found.estimator;
-            let looked = look_up(curve, levels);
-            let counted = looked.curve;
-            let gains = looked.gains;
-            let by = channel_factors(samples, part, carried, gains);
-            limit_channels(frame, channels, samples, &by[..samples]);
-            let last = gains[19];
-            Next {
-                reply,
-                limiter: Limiter {
-                    estimator: next,
-                    curve: counted,
-                    carried: last,
-                },
-            }
-        } else {
-            Next {
-                reply,
-                limiter: self,
-            }
-        }
+        // What the estimator refuses, the limiter does; but its own state is tested before the samples.
+        let set = samples == self.estimator.samples;
+        let shape = frames::is_shape(channels, samples, frame.len()) & set;
+        check(shape, self.passes(), true, true)?;
+        let heard = self.estimator.compute_level(frame, channels, samples)?;
+        let looked = look_up(self.curve, heard.envelope);
+        let by = channel_factors(samples, self.estimator.part, self.carried, looked.gains);
+        limit_channels(frame, channels, samples, &by[..samples]);
+        Ok(Limiter {
+            estimator: heard.estimator,
+            curve: looked.curve,
+            carried: looked.gains[19],
+        })
     }
 
     // The limiter for channels of so many samples, all else as it was; refused with 1 or 4.
-    pub fn set_samples_per_channel(self, samples: usize) -> Next
-        ensures { result ≡ changed self samples }
+    pub fn set_samples_per_channel(self, samples: usize) -> Result<Limiter, Refusal>
+        ensures { result ≡ handed (changed self samples).reply (changed self samples).limiter }
     {
-        let ok = self.passes();
-        let shape = frames::is_samples(samples);
-        let reply = units::replies::refusal(shape, ok, true, true);
-        if shape & ok {
-            let estimator = self.estimator;
-            let curve = self.curve;
-            Next {
-                reply,
-                limiter: Limiter {
-                    estimator: Estimator {
-                        level: estimator.level,
-                        samples,
-                        part: samples / 20,
-                    },
-                    curve,
-                    carried: self.carried,
-                },
-            }
-        } else {
-            Next {
-                reply,
-                limiter: self,
-            }
-        }
+        check(frames::is_samples(samples), self.passes(), true, true)?;
+        let estimator = self.estimator.set_samples_per_channel(samples)?;
+        Ok(Limiter { estimator, ..self })
     }
 
     // The limiter with its envelope at 0; the carried factor and the counts stay. Refused with 4.
-    pub fn reset(self) -> Next
-        ensures { result ≡ cleared self }
+    pub fn reset(self) -> Result<Limiter, Refusal>
+        ensures { result ≡ handed (cleared self).reply (cleared self).limiter }
     {
-        let ok = self.passes();
-        let reply = units::replies::refusal(true, ok, true, true);
-        if ok {
-            let estimator = self.estimator;
-            let curve = self.curve;
-            let kept = self.carried;
-            Next {
-                reply,
-                limiter: Limiter {
-                    estimator: Estimator {
-                        level: 0.0,
-                        samples: estimator.samples,
-                        part: estimator.part,
-                    },
-                    curve,
-                    carried: kept,
-                },
-            }
-        } else {
-            Next {
-                reply,
-                limiter: self,
-            }
-        }
+        check(true, self.passes(), true, true)?;
+        let silent = self.estimator.reset()?;
+        Ok(Limiter {
+            estimator: silent,
+            ..self
+        })
     }
 
     // The envelope's last value; a state that fails its test is refused with 4.
-    pub fn last_audio_level(self) -> Heard
-        ensures { result ≡ heard self }
+    pub fn last_audio_level(self) -> Result<LinearS16, Refusal>
+        ensures { result ≡ handed (heard self).reply (heard self).level }
     {
         let ok = self.passes();
-        let estimator = self.estimator;
-        Heard {
-            reply: units::replies::refusal(true, ok, true, true),
-            level: LinearS16(floats::pick(ok, estimator.level, 0.0)),
-        }
+        check(true, ok, true, true)?;
+        self.estimator.last_audio_level()
     }
 }

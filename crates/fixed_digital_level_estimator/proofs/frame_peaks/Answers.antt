@@ -1,6 +1,7 @@
 -- `fixed_digital_level_estimator::frame_peaks` meets its contract. The invariant: what is done, then the peaks of the sub-frames that are left, are all of
 -- them, where the sums are numbers; and what the highest peak and the sums tell of the samples. Assumes nothing.
-use mathlib.Core.Bool.{Bool, true, ◌&&◌}
+use Rattle.std.specs.Prelude.{Some, None}
+use mathlib.Core.Bool.{Bool, true, false, cond, ◌&&◌}
 use mathlib.Core.List.{List, ◌∷◌, ◌++◌, append-nil}
 use mathlib.Core.Path.{◌≡◌, refl, sym, ap, ap₂, ◌∙◌}
 use Prim.Native.Nat.{ℕ, suc, ◌+◌, ◌*◌, ◌≤◌, ◌<◌, ◌-◌}
@@ -106,18 +107,45 @@ loop-k-preserved c =
           c.larger-highest.result lanes (omega arith) c.largest-peak.ensures c.larger-highest.ensures raised loop.invariant.4,
     )
 
-pub returns : goal.returns
-returns c =
+-- what is handed out
+given : (within test : Bool) (peaks want : List Float) → (test ≡ within) × (test ≡ true → peaks ≡ want) → test ≡ true → Some peaks ≡ cond within (Some want) None
+given within test peaks want a h = rw (← a.0, h, a.1 h)
+
+kept : (within test : Bool) (peaks want : List Float) → (test ≡ within) × (test ≡ true → peaks ≡ want) → test ≡ false → None ≡ cond within (Some want) None
+kept within test peaks want a h = rw (← a.0, h)
+
+pub returns-then-tame : goal.returns-then-tame
+returns-then-tame c =
     let loop = c.loop-k in
     let known = c in
     let args = known.args in
     let frame = args.frame.now in
     let rest = drop loop.at frame in
     let none : 20 - loop.k ≡ 0 = omega arith in
-    answers frame args.channels args.samples args.part rest loop.peaks _ loop.highest loop.s loop.t loop.u loop.v _ _ _ _
+    given _ _ loop.peaks _
+    (answers frame args.channels args.samples args.part rest loop.peaks _ loop.highest loop.s loop.t loop.u loop.v _ _ _ _
     c.is_finite.ensures c.is_finite-2.ensures c.is_finite-3.ensures c.is_finite-4.ensures
     (rw none at loop.invariant.4) known.shared_slice_known-1.given
     (λ (h : Real (started loop.s loop.t loop.u loop.v)).
     no_part args.channels args.samples args.part loop.k rest loop.peaks (omega arith) loop.invariant.1
     ∙ loop.invariant.3 h
-    ∙ sym (over_down args.channels args.samples args.part silence frame (le_of_eq (sym known.requires.1))))
+    ∙ sym (over_down args.channels args.samples args.part silence frame (le_of_eq (sym known.requires.1)))))
+    c.if-tame.true
+
+pub returns-else-tame : goal.returns-else-tame
+returns-else-tame c =
+    let loop = c.loop-k in
+    let known = c in
+    let args = known.args in
+    let frame = args.frame.now in
+    let rest = drop loop.at frame in
+    let none : 20 - loop.k ≡ 0 = omega arith in
+    kept _ _ loop.peaks _
+    (answers frame args.channels args.samples args.part rest loop.peaks _ loop.highest loop.s loop.t loop.u loop.v _ _ _ _
+    c.is_finite.ensures c.is_finite-2.ensures c.is_finite-3.ensures c.is_finite-4.ensures
+    (rw none at loop.invariant.4) known.shared_slice_known-1.given
+    (λ (h : Real (started loop.s loop.t loop.u loop.v)).
+    no_part args.channels args.samples args.part loop.k rest loop.peaks (omega arith) loop.invariant.1
+    ∙ loop.invariant.3 h
+    ∙ sym (over_down args.channels args.samples args.part silence frame (le_of_eq (sym known.requires.1)))))
+    c.if-tame.false

@@ -1,9 +1,13 @@
 -- What is known where a state passes, and where a frame is accepted.
 -- Assumes nothing.
-use Rattle.std.specs.Prelude.{◌≡◌, true, List, [], ◌∷◌, ℕ, ◌*◌, ◌/◌, eqb, length, Float}
-use Rattle.std.proofs.Common.{◌∙◌, arith, eqb-true}
+use Rattle.std.specs.Prelude.{◌≡◌, Bool, true, Result, Err, List, [], ◌∷◌, ℕ, ◌*◌, ◌/◌, eqb, length, Float}
+use Rattle.std.proofs.Common.{sym, ap, ◌∙◌, arith, eqb-true}
 use Rattle.units.specs.Figures.{curve_level}
-use Rattle.units.specs.Replies.{done}
+use Rattle.units.specs.Replies.{done, refusal}
+use Rattle.units.specs.Laws.Replies.{refused_first}
+use Rattle.units.specs.Handed.{handed}
+use Rattle.units.specs.Laws.Handed.{handed_done}
+use Rattle.units.specs.declared.refusals.Refusal.{Refusal}
 use Rattle.frames.specs.Shape.{is_samples}
 use Rattle.frames.specs.Samples.{largest_level, all_within}
 use Rattle.frames.specs.Refusal.{frame_refusal}
@@ -49,3 +53,11 @@ accepted e frame channels samples h =
       parts = same ∙ (passing e t.settings).whole;
       sound = t.sound;
     }
+
+-- A frame that is refused before its samples are looked at is refused with that number, whatever the samples are.
+pub refused_early : {B : Type 0} (shape setting sample : Bool) (e : Refusal) (made : B) → ◌≡◌ {A = Result (Unit {0}) Refusal} (Err e) (handed (refusal shape setting true true) tt)
+    → handed (refusal shape setting true true) made ≡ handed (refusal shape setting true sample) made
+refused_early shape setting sample e made h =
+    let first = refusal shape setting true true in
+    let not_done : first ≡ done → ⊥ = λ (d : first ≡ done). cc (handed_done {A = Unit {0}} first tt d, h) in
+    ap (λ (n : ℕ). handed n made) (sym (refused_first shape setting true sample not_done))

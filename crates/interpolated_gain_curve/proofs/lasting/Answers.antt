@@ -1,49 +1,27 @@
--- `interpolated_gain_curve::lasting` meets its contract: one longer below the largest, held there, and 0 at a change. Assumes nothing.
-use Rattle.std.proofs.Common.{◌≡◌, ℕ, ◌-◌, ◌^◌, true, false, T, ℤ, pos, negsuc, ◌+ℤ◌, refl, ap, ◌∙◌, arith, to_z-of_z, w64, SFits, ltb-true, eq-eqb, ne_eqb}
-use lib.Signed.{lt_z}
+-- `interpolated_gain_curve::lasting` meets its contract: one longer, held at the largest i64, and 0 at a change. Assumes nothing.
+use Rattle.std.proofs.Common.{◌≡◌, ℕ, ◌+◌, ◌-◌, ◌^◌, ◌<◌, T, ℤ, pos, negsuc, ◌+ℤ◌, ap, arith, rules, to_z, of_z, w64, SFits, eq-eqb, ne_eqb}
+use Rattle.std.specs.Prelude.{cond, min, nat_lt}
+use Rattle.std.specs.Int.{saturate_signed}
+use Rattle.std.proofs.lemmas.Bool.Decides.{nat_tests}
 use Rattle.interpolated_gain_curve.specs.Curve.{lasting, longer, not_negative}
 use Rattle.interpolated_gain_curve.proofs.lasting.Goals as goal
 
--- the largest duration
-abbrev longest : ℤ
-longest = pos (2 ^ 63 - 1)
+least : (n : ℕ) → n < 2 ^ 63 → min (n + 1) (2 ^ 63 - 1) ≡ cond (nat_lt n (2 ^ 63 - 1)) (n + 1) n
+least n h = grind (arith, nat_tests)
 
-room : (d : ℤ) → T (not_negative d) → lt_z d longest ≡ true → SFits w64 (d +ℤ pos 1)
-unfolding not_negative
-room (pos n) t h = record { sfits = omega (arith, ltb-true) }
-room (negsuc n) t h = absurd t
-
-one-longer : (d : ℤ) → T (not_negative d) → lt_z d longest ≡ true → d +ℤ pos 1 ≡ longer d
+-- one longer, where the duration is one that there is
+one-longer : (d : ℤ) → T (not_negative d) → SFits w64 d → saturate_signed w64 (d +ℤ pos 1) ≡ longer d
 unfolding not_negative longer
-one-longer (pos n) t h = rw h
+one-longer (pos n) t h = ap pos (least n (omega arith))
 one-longer (negsuc n) t h = absurd t
 
-held : (d : ℤ) → lt_z d longest ≡ false → d ≡ longer d
-unfolding longer
-held (pos n) h = rw h
-held (negsuc n) h = refl
-
-same-region : (now before : ℕ) (d : ℤ) → now ≡ before → longer d ≡ lasting now before d
+pub returns-then-now-before : goal.returns-then-now-before
 unfolding lasting
-same-region now before d e = rw (eq-eqb now before e)
-
-pub overflow_add-result : goal.overflow_add-result
-overflow_add-result c =
-    let back = to_z-of_z c.ranges.duration in
-    rw back (room c.args.duration c.requires (rw back at c.if-duration-lt-LONGEST.true))
-
-pub returns-then-duration-lt-LONGEST : goal.returns-then-duration-lt-LONGEST
-returns-then-duration-lt-LONGEST c =
-    let back = to_z-of_z c.ranges.duration in
+returns-then-now-before c =
     let d = c.args.duration in
-    to_z-of_z (overflow_add-result c) ∙ ap (λ (z : ℤ). z +ℤ pos 1) back ∙ one-longer d c.requires (rw back at c.if-duration-lt-LONGEST.true)
-    ∙ same-region c.args.now c.args.before d c.if-now-before.true
-
-pub returns-else-duration-lt-LONGEST : goal.returns-else-duration-lt-LONGEST
-returns-else-duration-lt-LONGEST c =
-    let back = to_z-of_z c.ranges.duration in
-    let d = c.args.duration in
-    back ∙ held d (rw back at c.if-duration-lt-LONGEST.false) ∙ same-region c.args.now c.args.before d c.if-now-before.true
+    let back : to_z w64 (of_z w64 d) ≡ d = search rules in
+    let out : to_z w64 (of_z w64 c.saturating_add.result) ≡ c.saturating_add.result = search rules in
+    rw (out, c.saturating_add.ensures, back, one-longer d c.requires c.ranges.duration, eq-eqb _ _ c.if-now-before.true)
 
 pub returns-else-now-before : goal.returns-else-now-before
 unfolding lasting

@@ -14,15 +14,13 @@ unfolding last_below knots knot_bits
 loop-i-preserved c =
     let level = c.args.level in
     let loop = c.loop-i in
-    let i = loop.i in (
-      omega arith,
-      scan (λ (ys : List Float). last_below level i loop.piece ys) (λ (ys : List Float). last_below level (i + 1) c.pick-piece.result ys) knots i nan (omega arith)
-          (rw (add-one i, c.pick-piece.ensures))
-          ∙ loop.invariant.1,
-    )
+    let i = loop.i in
+    scan (λ (ys : List Float). last_below level i loop.piece ys) (λ (ys : List Float). last_below level (i + 1) c.pick-piece.result ys) knots i nan (omega arith)
+    (rw (add-one i, c.pick-piece.ensures))
+    ∙ loop.invariant
 
 pub returns : goal.returns
 unfolding last_below knots knot_bits
 returns c =
     let loop = c.loop-i in
-    sym (scan_done (λ (ys : List Float). last_below c.args.level loop.i loop.piece ys) knots loop.i c.loop-i-test.false) ∙ loop.invariant.1
+    sym (scan_done (λ (ys : List Float). last_below c.args.level loop.i loop.piece ys) knots loop.i c.loop-i-test.false) ∙ loop.invariant

@@ -13,7 +13,7 @@ use Rattle.frames.specs.Samples.{largest_level}
 use Rattle.floats.specs.Kinds.{magnitude}
 use Rattle.floats.specs.Laws.Kinds.{passed}
 use Rattle.interpolated_gain_curve.specs.declared.Curve.{Curve}
-use Rattle.interpolated_gain_curve.specs.declared.Looked.{Looked}
+use Rattle.interpolated_gain_curve.specs.Curve.{Looked}
 use Rattle.interpolated_gain_curve.specs.Curve as C
 use Rattle.interpolated_gain_curve.specs.Laws.Passes.{accepts, still_passes}
 use Rattle.interpolated_gain_curve.specs.Laws.Range.{Gain, gain_in_range}
@@ -21,7 +21,7 @@ use Rattle.fixed_digital_level_estimator.specs.Estimator as E
 use Rattle.lists.specs.Each.{Each, each_at, each_so}
 use Rattle.lists.specs.Tests.{each_passed, ◌and◌}
 use Rattle.fixed_digital_level_estimator.specs.Range.{Level, Sound, Held, Ready as EstimatorReady}
-use Rattle.fixed_digital_level_estimator.specs.declared.Levels.{Levels}
+use Rattle.fixed_digital_level_estimator.specs.Estimator.{Levels}
 use Rattle.fixed_digital_level_estimator.specs.Laws.Range.{samples_level, level_passes}
 use Rattle.fixed_digital_level_estimator.specs.Laws.Lengths.{envelope_length}
 use Rattle.fixed_digital_level_estimator.specs.Laws.States.{envelope_levels, computed_ready}
@@ -105,7 +105,7 @@ module _ (l : Limiter) (frame : List Float) (channels samples : ℕ) (ready : Re
   facts : Fine l frame channels samples
   facts = fine l frame channels samples taken_it
 
-  levels : Each Level (levels_of l frame channels)
+  pub levels : Each Level (levels_of l frame channels)
   unfolding levels_of
   levels = envelope_levels l.estimator frame channels samples ready.level held facts.estimator
 

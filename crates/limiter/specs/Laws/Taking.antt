@@ -14,7 +14,7 @@ use Rattle.frames.specs.Shape.{is_shape, is_samples}
 use Rattle.frames.specs.Samples.{all_within, largest_level}
 use Rattle.frames.specs.Refusal.{frame_refusal}
 use Rattle.frames.specs.Facts.{taken, not_refused, shape_facts}
-use Rattle.fixed_digital_level_estimator.specs.declared.Levels.{Levels}
+use Rattle.fixed_digital_level_estimator.specs.Estimator.{Levels}
 use Rattle.fixed_digital_level_estimator.specs.Estimator as E
 use Rattle.fixed_digital_level_estimator.specs.Envelope.{linear, plain}
 use Rattle.fixed_digital_level_estimator.specs.Laws.Kinds.{plain_linear}

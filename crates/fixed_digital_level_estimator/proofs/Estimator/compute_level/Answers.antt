@@ -1,6 +1,6 @@
 -- `Estimator::compute_level` meets its contract: where the reply is 0 the peaks are raised and smoothed, and the last value is the state. The samples are looked
 -- at only where the shape and the state pass, and no reply depends on them elsewhere. Assumes nothing.
-use mathlib.Core.Bool.{Bool, true, false, ◌&&◌, false≢true}
+use mathlib.Core.Bool.{Bool, true, false, cond, ◌&&◌}
 use mathlib.Core.List.{List, [], ◌∷◌}
 use mathlib.Core.Path.{◌≡◌, refl, sym, ap, ◌∙◌}
 use Prim.Native.Nat.{ℕ, ◌*◌}
@@ -8,8 +8,17 @@ use native.Mathlib.Omega.{arith}
 use lib.Dec.{eqb}
 use lib.Ieee.{Float}
 use lib.ListN.{length, get_or}
-use borrow.Author.Tests.{eqb-true, ne_eqb}
-use Rattle.units.specs.Replies.{done, refusal}
+use borrow.Author.Tests.{eqb-true}
+use Rattle.std.specs.Prelude.{Result, Ok, Err, Some, None}
+use Rattle.std.specs.Result.{IsErrAnd}
+use Rattle.std.proofs.lemmas.Result.{err_from_is_err_and}
+use Rattle.units.specs.declared.refusals.Refusal.{Refusal}
+use Rattle.units.specs.declared.refusals.Refusal.TheVariants.{Sample}
+use Rattle.fixed_digital_level_estimator.specs.declared.Levels.{Levels}
+use Rattle.units.specs.Replies.{refusal}
+use Rattle.units.specs.Laws.Replies.{none_refused}
+use Rattle.units.specs.Handed.{handed, refusal_of}
+use Rattle.units.specs.Laws.Handed.{refused_by, passed_done}
 use Rattle.units.specs.declared.kinds.LinearS16.{LinearS16}
 use Rattle.frames.specs.Refusal.{frame_refusal}
 use Rattle.frames.specs.Shape.{is_shape}
@@ -17,124 +26,88 @@ use Rattle.frames.specs.Samples.{largest_level, all_within}
 use Rattle.lists.specs.Tests.{each_of}
 use Rattle.frames.specs.Facts.{shape_facts}
 use Rattle.fixed_digital_level_estimator.specs.declared.Estimator.{Estimator}
-use Rattle.fixed_digital_level_estimator.specs.declared.Levels.{Levels}
-use Rattle.fixed_digital_level_estimator.specs.Envelope.{silence, peaks_over, raised, smoothed, linear, plain}
-use Rattle.fixed_digital_level_estimator.specs.Estimator.{computed, envelope_of, heard_up_to, passes}
+use Rattle.fixed_digital_level_estimator.specs.Envelope.{silence, peaks_over, raised, smoothed, linear}
+use Rattle.fixed_digital_level_estimator.specs.Estimator.{computed, told, envelope_of, heard_up_to, passes}
 use Rattle.fixed_digital_level_estimator.specs.Laws.Lengths.{envelope_length}
 use Rattle.fixed_digital_level_estimator.specs.Laws.Kinds.{linear_at}
-use Rattle.fixed_digital_level_estimator.specs.Laws.Accepted.{passing}
-use Rattle.fixed_digital_level_estimator.specs.Laws.States.{computed_levels}
-use Rattle.lists.specs.Each.{Each}
-use Rattle.fixed_digital_level_estimator.specs.Range.{Level}
-use Rattle.floats.specs.Laws.Kinds.{passed}
+use Rattle.fixed_digital_level_estimator.specs.Laws.Accepted.{passing, refused_early}
 use Rattle.fixed_digital_level_estimator.proofs.Estimator.compute_level.Goals as goal
-use Rattle.fixed_digital_level_estimator.proofs.Estimator.compute_level.Goals.{After-shared_slice_known-1}
 
--- where the shape or the state fails, the samples have no part in the reply, and it is not 0
-early : (shape setting sample : Bool) → shape && setting ≡ false → (refusal shape setting true true ≡ refusal shape setting true sample) × (refusal shape setting true sample ≡ done → ⊥)
-unfolding refusal
-early true true sample h = absurd (false≢true (sym h))
-early true false sample h = (refl, λ (d : _). omega arith)
-early false setting sample h = (refl, λ (d : _). omega arith)
-
--- where a sample fails, it is not 0 either
-late : (sample : Bool) → sample ≡ false → refusal true true true sample ≡ done → ⊥
-unfolding refusal
-late true h d = false≢true (sym h)
-late false h d = omega arith
-
--- with what the tests of the shape and of the state gave
-module _ (e : Estimator) (frame : List Float) (channels samples : ℕ) (ok fits : Bool) (o : ok ≡ passes e) (f : fits ≡ is_shape channels samples (length frame)) where
+module _ (e : Estimator) (frame : List Float) (channels samples : ℕ) where
   abbrev shape : Bool
-  shape = fits && eqb samples e.samples
-
-  -- what a frame that gets so far has passed: the shape, the samples that were set, and the state
-  passed-three : shape && ok ≡ true → (fits ≡ true) × (samples ≡ e.samples) × (ok ≡ true)
-  passed-three t =
-      let p = each_of (fits ∷ eqb samples e.samples ∷ ok ∷ []) t in
-      (p 0, eqb-true samples e.samples (p 1), p 2)
-
-  -- it has the shape that its peaks ask for
-  shaped : shape && ok ≡ true → (length frame ≡ channels * samples) × (samples ≡ 20 * e.part)
-  shaped t =
-      let p = passed-three t in
-      ((shape_facts channels samples (length frame) (sym f ∙ p.0)).1, p.1 ∙ (passing e (sym o ∙ p.2)).whole)
+  shape = is_shape channels samples (length frame) && eqb samples e.samples
 
   -- the reply of a frame
-  replied : frame_refusal frame channels samples (eqb samples e.samples) (passes e) true largest_level ≡ refusal shape ok true (all_within largest_level frame)
-  unfolding frame_refusal
-  replied = rw (o, f)
+  replied : refusal shape (passes e) true (all_within largest_level frame) ≡ (computed e frame channels samples).reply
+  unfolding computed frame_refusal
+  replied = refl
 
-  -- the answer to a refused one
-  refuses : (reply : ℕ) → reply ≡ refusal shape ok true (all_within largest_level frame) → (reply ≡ done → ⊥)
-      → ◌≡◌ {A = Levels} (record { reply = reply; estimator = e; envelope = linear silence }) (computed e frame channels samples)
-  unfolding computed
-  refuses reply r d = rw (replied, ← r, ne_eqb reply done d)
+  -- a frame that gets so far has the shape that its peaks ask for
+  shaped : shape ≡ true → passes e ≡ true → (length frame ≡ channels * samples) × (samples ≡ 20 * e.part)
+  shaped t p =
+      let s = each_of (is_shape channels samples (length frame) ∷ eqb samples e.samples ∷ []) t in
+      ((shape_facts channels samples (length frame) (s 0)).1, eqb-true samples e.samples (s 1) ∙ (passing e p).whole)
 
-  -- one that is refused before its samples are looked at
-  refuses-early : (reply : ℕ) → reply ≡ refusal shape ok true true → shape && ok ≡ false
-      → ◌≡◌ {A = Levels} (record { reply = reply; estimator = e; envelope = linear silence }) (computed e frame channels samples)
-  refuses-early reply r t =
-      let k = early shape ok (all_within largest_level frame) t in
-      refuses reply (r ∙ k.0) (λ (d : reply ≡ done). k.1 (sym (r ∙ k.0) ∙ d))
+  -- one that is taken
+  taken : shape ≡ true → passes e ≡ true → all_within largest_level frame ≡ true → (envelope : List LinearS16) (d : LinearS16)
+      → envelope ≡ linear (smoothed e.level (raised (peaks_over channels samples e.part silence frame)))
+      → Ok (record { estimator = record { level = (get_or envelope 19 d).0; samples = e.samples; part = e.part }; envelope = envelope })
+      ≡ handed (computed e frame channels samples).reply (told (computed e frame channels samples))
+  unfolding computed frame_refusal heard_up_to envelope_of refusal handed
+  taken s p w envelope d h =
+      let same = eqb-true samples e.samples (each_of (is_shape channels samples (length frame) ∷ eqb samples e.samples ∷ []) s 1) in
+      let whole : envelope ≡ linear (envelope_of e channels frame) = rw (h, same) in
+      let all = envelope_length e channels frame in
+      rw (s, p, w, whole, linear_at (envelope_of e channels frame) 19 d e.level (omega arith))
 
-  -- one whose samples were looked at
-  module _ (tame : Bool) (reply : ℕ) (t : shape && ok ≡ true) (w : tame ≡ all_within largest_level frame) (r : reply ≡ refusal true true true tame) where
-    is : reply ≡ refusal shape ok true (all_within largest_level frame)
-    is = shown (each_of (shape ∷ ok ∷ []) t 0) (each_of (shape ∷ ok ∷ []) t 1)
-      where
-        shown : shape ≡ true → ok ≡ true → reply ≡ refusal shape ok true (all_within largest_level frame)
-        shown s k = rw (s, k, ← w) r
+pub returns-in_err-check : goal.returns-in_err-check
+returns-in_err-check c =
+    let a = c.args in
+    let test = shape a.self a.frame.now a.channels a.samples in
+    let h = rw (c.is_shape.ensures, c.passes.ensures) at c.in_err-check.ensures in
+    let all = told (computed a.self a.frame.now a.channels a.samples) in
+    refused_by _ _ _ tt all c.from_residual.ensures.1 h
+    ∙ refused_early test (passes a.self) (all_within largest_level a.frame.now) _ all h
+    ∙ ap (λ (n : ℕ). handed n all) (replied a.self a.frame.now a.channels a.samples)
 
-    refuses-late : tame ≡ false → ◌≡◌ {A = Levels} (record { reply = reply; estimator = e; envelope = linear silence }) (computed e frame channels samples)
-    refuses-late b = refuses reply is (λ (d : reply ≡ done). late tame b (sym r ∙ d))
+pub frame_peaks-requires : goal.frame_peaks-requires
+frame_peaks-requires c =
+    let a = c.args in
+    let test = shape a.self a.frame.now a.channels a.samples in
+    let t = none_refused test (passes a.self) true true (passed_done _ _ _ (rw (c.is_shape.ensures, c.passes.ensures) at c.in_ok-check.ensures)) in
+    shaped a.self a.frame.now a.channels a.samples t.0 t.1
 
-    accepts : (peaks high : List Float) (envelope : List LinearS16) (d : LinearS16) → tame ≡ true → peaks ≡ peaks_over channels samples e.part silence frame
-        → high ≡ raised peaks
-        → envelope ≡ linear (smoothed e.level high)
-        → ◌≡◌ {A = Levels} (record { reply = reply; estimator = record { level = (get_or envelope 19 d).0; samples = e.samples; part = e.part }; envelope = envelope }) (computed e frame channels samples)
-    unfolding computed heard_up_to envelope_of refusal
-    accepts peaks high envelope d b p h s =
-        let same = (passed-three t).1 in
-        let whole : envelope ≡ linear (envelope_of e channels frame) = rw (s, h, p, same) in
-        let all = envelope_length e channels frame in
-        let zero : reply ≡ done = r ∙ ap (refusal true true true) b in
-        rw (replied, ← is, zero, whole, linear_at (envelope_of e channels frame) 19 d e.level (omega arith))
+-- what the peaks show of the samples
+found : (within : Bool) (want peaks : List Float) → Some peaks ≡ cond within (Some want) None → (within ≡ true) × (peaks ≡ want)
+found true want peaks h = (refl, cc)
+found false want peaks h = absurd (cc)
 
--- The laws on the range ask nothing that is not known of every call: the samples are f32, and so is the state's level.
-in-range : (c : After-shared_slice_known-1)
-    → Each Level (plain (computed c.args.self c.args.frame.now c.args.channels c.args.samples).envelope)
-in-range c =
-    let args = c.args in
-    computed_levels args.self args.frame.now args.channels args.samples (passed c.well_formed.0.1.1.0.1) c.shared_slice_known-1.given
+lost : (within : Bool) (want : List Float) → None ≡ cond within (Some want) None → within ≡ false
+lost true want h = absurd (cc)
+lost false want h = refl
 
-pub frame_peaks-found-requires : goal.frame_peaks-found-requires
-frame_peaks-found-requires c =
-    let args = c.args in
-    shaped args.self args.frame.now args.channels args.samples _ _ c.passes-ok.ensures c.is_shape.ensures c.if-shape-ok.true
+-- one with a sample that is refused
+dropped : (e : Estimator) (frame : List Float) (channels samples : ℕ) → shape e frame channels samples ≡ true → passes e ≡ true → all_within largest_level frame ≡ false
+    → (r : Result Levels Refusal) (d : Refusal) → IsErrAnd r (λ x. x ≡ d) → d ≡ Sample
+    → r ≡ handed (computed e frame channels samples).reply (told (computed e frame channels samples))
+unfolding computed frame_refusal refusal handed refusal_of
+dropped e frame channels samples s p w r d h k =
+    let a = err_from_is_err_and r h in
+    rw (s, p, w) (a.1 ∙ ap Err (a.2 ∙ k))
 
-pub returns-then-found : goal.returns-then-found
-returns-then-found c =
-    let told = c in
-    let peaks = told.frame_peaks-found.ensures in
-    let first = told in
-    let args = first.args in
-    accepts args.self args.frame.now args.channels args.samples _ _ first.passes-ok.ensures first.is_shape.ensures _ _ first.if-shape-ok.true peaks.0 told.refusal-reply.ensures _ _ _ _
-    c.if-found.true (peaks.1 c.if-found.true) c.raise.ensures c.smooth-envelope.ensures
+pub returns-in_err-peaks : goal.returns-in_err-peaks
+returns-in_err-peaks c =
+    let a = c.args in
+    let test = shape a.self a.frame.now a.channels a.samples in
+    let t = none_refused test (passes a.self) true true (passed_done _ _ _ (rw (c.is_shape.ensures, c.passes.ensures) at c.in_ok-check.ensures)) in
+    let peaks = c.in_err-peaks.ensures.ok_part in
+    let told = rw peaks at c.in_err-peaks.ensures.value in
+    dropped a.self a.frame.now a.channels a.samples t.0 t.1 (lost _ _ (sym peaks ∙ c.frame_peaks.ensures)) _ _ c.from_residual-in_err-peaks.ensures.1 (cc told)
 
-pub returns-else-found : goal.returns-else-found
-unfolding linear
-returns-else-found c =
-    let told = c in
-    let first = told in
-    let args = first.args in
-    refuses-late args.self args.frame.now args.channels args.samples _ _ first.passes-ok.ensures first.is_shape.ensures _ _ first.if-shape-ok.true
-    told.frame_peaks-found.ensures.0 told.refusal-reply.ensures c.if-found.false
-
-pub returns-else-shape-ok : goal.returns-else-shape-ok
-unfolding linear
-returns-else-shape-ok c =
-    let first = c in
-    let args = first.args in
-    refuses-early args.self args.frame.now args.channels args.samples _ _ first.passes-ok.ensures first.is_shape.ensures _ c.refusal-reply-else-shape-ok.ensures
-    first.if-shape-ok.false
+pub returns : goal.returns
+returns c =
+    let a = c.args in
+    let test = shape a.self a.frame.now a.channels a.samples in
+    let t = none_refused test (passes a.self) true true (passed_done _ _ _ (rw (c.is_shape.ensures, c.passes.ensures) at c.in_ok-check.ensures)) in
+    let peaks = found _ _ _ (sym c.in_ok-peaks.ensures.ok_part ∙ c.frame_peaks.ensures) in
+    taken a.self a.frame.now a.channels a.samples t.0 t.1 peaks.0 c.smooth-envelope.result _ (rw (← peaks.1, ← c.raise.ensures) c.smooth-envelope.ensures)

@@ -1,29 +1,27 @@
 -- `Estimator::set_samples_per_channel` meets its contract: the two tests are the definition's. Assumes nothing.
-use mathlib.Core.Bool.{Bool, true, false, ◌&&◌}
-use mathlib.Core.Path.{◌≡◌}
-use Prim.Native.Nat.{ℕ, ◌/◌}
+use Rattle.std.proofs.Common.{◌≡◌, true}
+use Rattle.std.specs.Prelude.{Ok, ℕ, ◌/◌}
 use Rattle.units.specs.Replies.{refusal}
+use Rattle.units.specs.Laws.Replies.{none_refused}
+use Rattle.units.specs.Handed.{handed}
+use Rattle.units.specs.Laws.Handed.{refused_by, passed_done}
 use Rattle.frames.specs.Shape.{is_samples}
 use Rattle.fixed_digital_level_estimator.specs.declared.Estimator.{Estimator}
-use Rattle.fixed_digital_level_estimator.specs.declared.Next.{Next}
 use Rattle.fixed_digital_level_estimator.specs.Estimator.{passes, changed, sized_to}
 use Rattle.fixed_digital_level_estimator.proofs.Estimator.set_samples_per_channel.Goals as goal
 
--- the answer, with what the calls gave
-module _ (e : Estimator) (samples : ℕ) (ok shape : Bool) (reply : ℕ) (o : ok ≡ passes e) (s : shape ≡ is_samples samples) (r : reply ≡ refusal shape ok true true) where
-  taken : shape && ok ≡ true
-      → ◌≡◌ {A = Next} (record { reply = reply; estimator = record { level = e.level; samples = samples; part = samples / 20 } }) (changed e samples)
-  unfolding changed sized_to
-  taken t = rw (r, ← o, ← s, t)
+pub returns-in_err-check : goal.returns-in_err-check
+unfolding changed
+returns-in_err-check c = refused_by _ _ _ tt _ c.from_residual.ensures.1 (rw (c.is_samples.ensures, c.passes.ensures) at c.in_err-check.ensures)
 
-  left : shape && ok ≡ false → ◌≡◌ {A = Next} (record { reply = reply; estimator = e }) (changed e samples)
-  unfolding changed
-  left t = rw (r, ← o, ← s, t)
+-- samples that a frame can have, and a state that passes
+taken : (e : Estimator) (samples : ℕ) → is_samples samples ≡ true → passes e ≡ true
+    → Ok (record { level = e.level; samples = samples; part = samples / 20 }) ≡ handed (changed e samples).reply (changed e samples).estimator
+unfolding changed sized_to refusal handed
+taken e samples s p = rw (s, p)
 
-pub returns-then-shape-ok : goal.returns-then-shape-ok
-returns-then-shape-ok c =
-    taken _ _ _ _ _ c.passes-ok.ensures c.is_samples-shape.ensures c.refusal-reply.ensures c.if-shape-ok.true
-
-pub returns-else-shape-ok : goal.returns-else-shape-ok
-returns-else-shape-ok c =
-    left _ _ _ _ _ c.passes-ok.ensures c.is_samples-shape.ensures c.refusal-reply.ensures c.if-shape-ok.false
+pub returns : goal.returns
+returns c =
+    let a = c.args in
+    let t = none_refused (is_samples a.samples) (passes a.self) true true (passed_done _ _ _ (rw (c.is_samples.ensures, c.passes.ensures) at c.in_ok-check.ensures)) in
+    taken a.self a.samples t.0 t.1

@@ -1,10 +1,10 @@
 -- `interpolated_gain_curve::Curve::in_region` meets its contract: each field by its own rule. Assumes nothing.
-use Rattle.std.proofs.Common.{◌≡◌, ℕ, true, T, eqb, leb, ℤ, w64, to_z, of_z, rules}
+use Rattle.std.proofs.Common.{◌≡◌, T, leb, w64, to_z, of_z, rules}
 use lib.Ieee.Fits.{and_r}
-use Rattle.interpolated_gain_curve.specs.Gain.{identity, knee, limiter, saturation}
-use Rattle.interpolated_gain_curve.specs.Curve.{passes, not_negative, counted, lasting, in_region}
+use Rattle.interpolated_gain_curve.specs.Curve.{number_of, passes, not_negative, counted, in_region}
 use Rattle.interpolated_gain_curve.specs.declared.Curve.{Curve as State}
 use Rattle.interpolated_gain_curve.proofs.Curve.in_region.Goals as goal
+use Rattle.interpolated_gain_curve.proofs.Curve.in_region.Goals.{in-Identity, in-Knee, in-Limiter, in-Saturation}
 
 -- the state passes, so its duration is not negative
 lasts : (s : State) → T (passes s) → T (not_negative s.duration)
@@ -17,19 +17,16 @@ lasting-requires c =
     let back : to_z w64 (of_z w64 d) ≡ d = search rules in
     rw back (lasts c.args.self c.requires)
 
--- the definition, field by field
-fields : (s : State) (now a b c d : ℕ) (came last held : ℤ) → a ≡ counted (eqb now identity) s.identity → b ≡ counted (eqb now knee) s.knee
-    → c ≡ counted (eqb now limiter) s.limiter → d ≡ counted (eqb now saturation) s.saturation → came ≡ s.duration → last ≡ lasting now s.region came
-    → held ≡ last
-    → ◌≡◌ {A = State} (record { identity = a; knee = b; limiter = c; saturation = d; available = true; region = now; duration = held }) (in_region s now)
-unfolding in_region
-fields s now a b c d came last held i k l t e f h = rw (i, k, l, t, h, f, e)
-
 pub returns : goal.returns
+unfolding in_region counted number_of
 returns c =
     let last = c.lasting.result in
     let d = c.args.self.duration in
     let back : to_z w64 (of_z w64 d) ≡ d = search rules in
     let out : to_z w64 (of_z w64 last) ≡ last = search rules in
-    fields _ _ _ _ _ _ _ _ _ c.counted.ensures c.counted-2.ensures c.counted-3.ensures
-    c.counted-4.ensures back c.lasting.ensures out
+    elim c.match-now.branch [
+      | in-Identity w ↦ rw (w.next-is, out, c.lasting.ensures, back, w.in-Identity.is)
+      | in-Knee w ↦ rw (w.next-is, out, c.lasting.ensures, back, w.in-Knee.is)
+      | in-Limiter w ↦ rw (w.next-is, out, c.lasting.ensures, back, w.in-Limiter.is)
+      | in-Saturation w ↦ rw (w.next-is, out, c.lasting.ensures, back, w.in-Saturation.is)
+    ]

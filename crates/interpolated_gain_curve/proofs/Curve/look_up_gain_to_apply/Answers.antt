@@ -1,46 +1,43 @@
 -- `interpolated_gain_curve::Curve::look_up_gain_to_apply` meets its contract: where the state and the level pass, the step; otherwise nothing. Assumes nothing.
-use Rattle.std.proofs.Common.{◌≡◌, ℕ, Bool, true, false, ◌&&◌, sym, ◌∙◌}
-use lib.Ieee.{Float, binary32, of_bits}
-use lib.Ieee.Fits.{and_l}
+use Rattle.std.proofs.Common.{◌≡◌, ℕ, true}
+use Rattle.std.specs.Prelude.{Result, Ok}
+use Rattle.units.specs.declared.refusals.Refusal.{Refusal}
+use lib.Ieee.{Float}
 use Rattle.floats.specs.Laws.Kinds.{passed}
 use Rattle.units.specs.Figures.{curve_level}
 use Rattle.units.specs.Replies.{refusal}
+use Rattle.units.specs.Laws.Replies.{none_refused}
+use Rattle.units.specs.Handed.{handed}
+use Rattle.units.specs.Laws.Handed.{refused_by, passed_done}
 use Rattle.interpolated_gain_curve.specs.Gain.{region_of, gain_of}
-use Rattle.interpolated_gain_curve.specs.Curve.{passes, in_region, looked}
+use Rattle.interpolated_gain_curve.specs.Curve.{passes, in_region, looked, told}
 use Rattle.interpolated_gain_curve.specs.declared.Curve.{Curve as State}
 use Rattle.interpolated_gain_curve.specs.declared.Looked.{Looked}
 use Rattle.interpolated_gain_curve.proofs.Curve.look_up_gain_to_apply.Goals as goal
-use Rattle.interpolated_gain_curve.proofs.Curve.look_up_gain_to_apply.Goals.{After-refusal-reply}
+use Rattle.interpolated_gain_curve.proofs.Curve.look_up_gain_to_apply.Goals.{In_ok-check}
 
--- the code's test is the definition's
-test : (c : After-refusal-reply)
-    → c.passes-state.result && c.is_curve_level-figure.result ≡ passes c.args.self && curve_level c.args.level.0
-test c = rw (c.passes-state.ensures, c.is_curve_level-figure.ensures)
-
-pub in_region-next-requires : goal.in_region-next-requires
-in_region-next-requires c =
-    let start = c.args in
-    and_l (passes start.self) (curve_level start.level.0) (passed (sym (test c.before.before) ∙ c.if-state-figure.true))
-
--- the answer of a look-up whose tests give these
-taken : (s : State) (level : Float) (state figure : Bool) (reply region : ℕ) (next : State) (gain : Float)
-    → state ≡ passes s → figure ≡ curve_level level → reply ≡ refusal true state figure true → state && figure ≡ true → region ≡ region_of level
-    → next ≡ in_region s region → gain ≡ gain_of level → ◌≡◌ {A = Looked} (record { reply = reply; curve = next; gain = gain }) (looked s level)
+pub returns-in_err-check : goal.returns-in_err-check
 unfolding looked
-taken s level state figure reply region next gain a b c t r n g = rw (c, n, r, g, ← a, ← b, t)
+returns-in_err-check c =
+    refused_by _ _ _ tt _ c.from_residual.ensures.1 (rw (c.passes-state.ensures, c.is_curve_level-figure.ensures) at c.in_err-check.ensures)
 
-left : (s : State) (level : Float) (state figure : Bool) (reply : ℕ) → state ≡ passes s → figure ≡ curve_level level → reply ≡ refusal true state figure true
-    → state && figure ≡ false → ◌≡◌ {A = Looked} (record { reply = reply; curve = s; gain = of_bits binary32 0x0000_0000 }) (looked s level)
-unfolding looked
-left s level state figure reply a b c t = rw (c, ← a, ← b, t)
+-- the four tests, where nothing was refused
+tests : (c : In_ok-check) → (true ≡ true) × (passes c.args.self ≡ true) × (curve_level c.args.level.0 ≡ true) × (true ≡ true)
+tests c =
+    let a = c.args in
+    none_refused true (passes a.self) (curve_level a.level.0) true
+    (passed_done _ _ _ (rw (c.passes-state.ensures, c.is_curve_level-figure.ensures) at c.in_ok-check.ensures))
 
-pub returns-then-state-figure : goal.returns-then-state-figure
-returns-then-state-figure c =
-    let told = c in
-    taken _ _ _ _ _ _ _ _ told.passes-state.ensures told.is_curve_level-figure.ensures told.refusal-reply.ensures
-    c.if-state-figure.true c.region_of.ensures c.in_region-next.ensures c.gain_of.ensures
+pub in_region-requires : goal.in_region-requires
+in_region-requires c = passed (tests c.before).1
 
-pub returns-else-state-figure : goal.returns-else-state-figure
-returns-else-state-figure c =
-    let told = c in
-    left _ _ _ _ _ told.passes-state.ensures told.is_curve_level-figure.ensures told.refusal-reply.ensures c.if-state-figure.false
+-- what is handed out where both tests pass
+taken : (s : State) (level : Float) (region : ℕ) (next : State) (gain : Float) → passes s ≡ true → curve_level level ≡ true → region ≡ region_of level
+    → next ≡ in_region s region → gain ≡ gain_of level → ◌≡◌ {A = Result Looked Refusal} (Ok (record { curve = next; gain = gain })) (handed (looked s level).reply (told (looked s level)))
+unfolding looked refusal handed
+taken s level region next gain a b r n g = rw (n, g, r, a, b)
+
+pub returns : goal.returns
+returns c =
+    let t = tests c.before.before.before in
+    taken _ _ _ _ _ t.1 t.2 c.region_of.ensures c.in_region.ensures c.gain_of.ensures

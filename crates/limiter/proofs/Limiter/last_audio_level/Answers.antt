@@ -1,19 +1,26 @@
--- `limiter::Limiter::last_audio_level` meets its contract. Assumes nothing.
-use mathlib.Core.Bool.{Bool, true, cond}
-use mathlib.Core.Path.{◌≡◌}
-use Prim.Native.Nat.{ℕ}
-use lib.Ieee.{Float, binary32, of_bits}
+-- `limiter::Limiter::last_audio_level` meets its contract: a state that passes has an estimator that does. Assumes nothing.
+use Rattle.std.proofs.Common.{◌≡◌, true, ◌∙◌}
 use Rattle.units.specs.Replies.{refusal}
+use Rattle.units.specs.Laws.Replies.{none_refused}
+use Rattle.units.specs.Handed.{handed}
+use Rattle.units.specs.Laws.Handed.{refused_by, passed_done}
+use Rattle.fixed_digital_level_estimator.specs.Estimator as E
 use Rattle.limiter.specs.declared.Limiter.{Limiter}
-use Rattle.limiter.specs.declared.Heard.{Heard}
 use Rattle.limiter.specs.Limiter.{passes, heard}
+use Rattle.limiter.specs.Laws.Taking.{parts_pass}
 use Rattle.limiter.proofs.Limiter.last_audio_level.Goals as goal
 
--- the answer, with what the calls gave
-handed : (l : Limiter) (ok : Bool) (reply : ℕ) (level : Float) → ok ≡ passes l → reply ≡ refusal true ok true true
-    → level ≡ cond ok l.estimator.level (of_bits binary32 0x0000_0000) → ◌≡◌ {A = Heard} (record { reply = reply; level = record { 0 = level } }) (heard l)
+pub returns-in_err-check : goal.returns-in_err-check
 unfolding heard
-handed l ok reply level o r v = rw (r, v, o)
+returns-in_err-check c = refused_by _ _ _ tt _ c.from_residual.ensures.1 (rw c.passes-ok.ensures at c.in_err-check.ensures)
+
+-- the estimator's level
+same : (l : Limiter) → passes l ≡ true → handed (E.heard l.estimator).reply (E.heard l.estimator).level ≡ handed (heard l).reply (heard l).level
+unfolding heard E.heard refusal handed
+same l h = rw (h, (parts_pass l h).estimator)
 
 pub returns : goal.returns
-returns c = handed _ _ _ _ c.passes-ok.ensures c.refusal.ensures c.pick.ensures
+returns c =
+    let a = c.args in
+    c.last_audio_level.ensures
+    ∙ same a.self (none_refused true (passes a.self) true true (passed_done _ _ _ (rw c.passes-ok.ensures at c.in_ok-check.ensures))).1

@@ -1,27 +1,31 @@
--- `limiter::Limiter::new` meets its contract. Assumes nothing.
-use mathlib.Core.Path.{◌≡◌, refl}
-use mathlib.Core.Bool.{Bool, true, false, cond}
-use Prim.Native.Nat.{ℕ, ◌/◌}
+-- `limiter::Limiter::new` meets its contract: it refuses what a new estimator does. Assumes nothing.
+use Rattle.std.proofs.Common.{◌≡◌, ℕ, true, sym}
+use Rattle.std.specs.Prelude.{Ok}
 use lib.Ieee.{binary32, of_bits}
+use Rattle.units.specs.Replies.{refusal}
+use Rattle.units.specs.Laws.Replies.{none_refused}
+use Rattle.units.specs.Handed.{handed}
+use Rattle.units.specs.Laws.Handed.{refused_by, handed_ok}
+use Rattle.frames.specs.Shape.{is_samples}
 use Rattle.interpolated_gain_curve.specs.Curve.{fresh}
-use Rattle.limiter.specs.declared.Limiter.{Limiter}
-use Rattle.limiter.specs.Limiter.{made, starting, none}
-use Rattle.limiter.specs.Limiter.{made}
+use Rattle.fixed_digital_level_estimator.specs.declared.Estimator.{Estimator}
+use Rattle.fixed_digital_level_estimator.specs.Estimator as E
+use Rattle.limiter.specs.Limiter.{made, starting}
 use Rattle.limiter.proofs.Limiter.new.Goals as goal
 
--- fields that are chosen, or a state that is
-chosen : (b : Bool) (samples : ℕ)
-    → ◌≡◌ {A = Limiter}
-    (record {
-      estimator = record { level = of_bits binary32 0; samples = cond b samples 0; part = cond b samples 0 / 20 };
-      curve = fresh;
-      carried = cond b (of_bits binary32 0x3f80_0000) (of_bits binary32 0);
-    })
-    (cond b (starting samples) none)
-unfolding starting none
-chosen true samples = refl
-chosen false samples = refl
+pub returns-in_err-estimator : goal.returns-in_err-estimator
+unfolding made E.made
+returns-in_err-estimator c = refused_by _ _ _ _ _ c.from_residual.ensures.1 c.in_err-estimator.ensures
+
+-- what is made with a new estimator
+with : (samples : ℕ) (e : Estimator) → Ok e ≡ handed (E.made samples).reply (E.made samples).estimator
+    → Ok (record { estimator = e; curve = fresh; carried = of_bits binary32 0x3f80_0000 }) ≡ handed (made samples).reply (made samples).limiter
+unfolding made E.made starting refusal handed
+with samples e h =
+    let both = handed_ok (refusal (is_samples samples) true true true) _ e (sym h) in
+    let t = (none_refused (is_samples samples) true true true both.0).0 in
+    let is : E.sized_to E.none samples ≡ e = rw t at both.1 in
+    rw (t, ← is)
 
 pub returns : goal.returns
-unfolding made
-returns c = rw (c.refusal-reply.ensures, c.pick-s.ensures, c.new.ensures, c.pick.ensures, chosen c.is_samples-ok.result, c.is_samples-ok.ensures)
+returns c = rw c.new-2.ensures (with c.args.samples _ c.in_ok-estimator.ensures)
