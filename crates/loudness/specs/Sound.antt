@@ -4,7 +4,7 @@ use Rattle.std.specs.Prelude.{Bool, ◌&&◌, cond, List, ℕ, zero, suc, ◌+�
 use Rattle.units.specs.Replies.{done, bad_shape}
 use Rattle.frames.specs.Shape.{is_samples}
 use Rattle.wav_format.specs.Bytes.{little_at}
-use Rattle.loudness.specs.declared.Loud.{Loud}
+use Rattle.loudness.specs.declared.Loud as Declared
 
 -- how far a sample is from zero, by the number of its two bytes: from 32768 on the sample is that number less 65536
 unfoldable pub magnitude_of : ℕ → ℕ
@@ -42,7 +42,17 @@ is_sizes channels samples = leb 1 channels && leb channels 8 && is_samples sampl
 unfoldable pub is_frame : ℕ → ℕ → ℕ → Bool
 is_frame channels samples n = is_sizes channels samples && eqb n (2 * channels * samples)
 
+-- a reply's number, and what was heard, both 0 where it is refused
+pub record Loud : Type 0 where
+  pub reply : ℕ
+  pub square : ℕ
+  pub peak : ℕ
+
 unfoldable pub loudness_of : List ℕ → ℕ → ℕ → Loud
 loudness_of bytes channels samples =
     let ok = is_frame channels samples (length bytes) in
     record { reply = cond ok done bad_shape; square = cond ok (over_channels (square_of bytes channels samples) 0 channels) 0; peak = cond ok (over_channels (peak_of bytes channels samples) 0 channels) 0 }
+
+-- what was heard, without the reply
+abbrev pub heard_of : Loud → Declared.Loud
+heard_of l = record { square = l.square; peak = l.peak }

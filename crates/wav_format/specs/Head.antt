@@ -5,7 +5,7 @@ use Rattle.units.specs.Output.{Put, put}
 use Rattle.frames.specs.Shape.{is_samples}
 use Rattle.wav_format.specs.Bytes.{little_at, little}
 use Rattle.wav_format.specs.declared.head.Chunk.{Chunk}
-use Rattle.wav_format.specs.declared.head.Format.{Format}
+use Rattle.wav_format.specs.declared.head.Format as Declared
 
 -- ---- names of four letters
 -- RIFF
@@ -38,6 +38,10 @@ unfoldable pub plain : List ℕ → Bool
 unfolding little_at
 plain bytes = little_at bytes 0 2 == 1 || (little_at bytes 0 2 == 65534 && little_at bytes 24 2 == 1)
 
+-- 1 to 8 channels, each with the samples of a frame
+abbrev pub is_sizes : ℕ → ℕ → Bool
+is_sizes channels samples = nat_le 1 channels && nat_le channels 8 && is_samples samples
+
 -- 1 to 8 channels, and 10 ms whose samples are a frame's
 unfoldable pub takeable : ℕ → ℕ → Bool
 unfolding is_samples
@@ -53,6 +57,13 @@ format_refusal bytes =
     bad_version)
     cut
 
+-- a reply's number, and what a format chunk says, all 0 where it is refused
+pub record Format : Type 0 where
+  pub reply : ℕ
+  pub channels : ℕ
+  pub samples : ℕ
+  pub mask : ℕ
+
 -- the mask says which speakers the channels are for. It stands in an extended format only; another one says none, which is 0
 unfoldable pub format_of : List ℕ → Format
 unfolding format_refusal little_at
@@ -64,6 +75,10 @@ format_of bytes =
       samples = cond ok (little_at bytes 4 4 / 100) 0;
       mask = cond (ok && little_at bytes 0 2 == 65534) (little_at bytes 20 4) 0;
     }
+
+-- what it says, without the reply
+abbrev pub said : Format → Declared.Format
+said f = record { channels = f.channels; samples = f.samples; mask = f.mask }
 
 -- ---- what is written: the start, the format and the head of the samples, of which so many bytes follow
 -- without a mask, which is 0, the format has 16 bytes, and with one 40

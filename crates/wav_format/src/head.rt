@@ -1,10 +1,11 @@
 // The head of a WAV file: the twelve bytes it begins with, a chunk's eight, and the format chunk.
 
 ghost use Rattle.std.specs.Prelude.{◌≡◌, ◌≤◌, ◌++◌, length, drop};
-ghost use Rattle.wav_format.specs.Head.{is_wave, chunk_of, format_refusal, format_of, head_length, following, head_bytes, put_head};
+ghost use Rattle.units.specs.Handed.{handed};
+ghost use Rattle.wav_format.specs.Head.{is_wave, chunk_of, is_sizes, format_refusal, format_of, said, head_length, following, head_bytes, put_head};
 
 use crate::numbers::{four_at, put_fours, two_at};
-use units::replies::{CUT, DONE, LENGTH, ROOM, SHAPE, VERSION};
+use units::refusals::Refusal;
 
 // The bytes that a file begins with, those of a chunk's head, the most of a format chunk that is looked at, and the
 // bytes of a head that is written: without a mask, and with one.
@@ -28,9 +29,9 @@ pub const FORMAT: u32 = 0x2074_6d66;
 pub const DATA: u32 = 0x6174_6164;
 
 // The tags of plain samples, and of a format whose own tag comes later.
-const PLAIN: u32 = 1;
+const PLAIN: u16 = 1;
 
-const EXTENDED: u32 = 65534;
+const EXTENDED: u16 = 65534;
 
 // A chunk's name and how many bytes follow its head.
 #[derive(Clone, Copy)]
@@ -39,11 +40,10 @@ pub struct Chunk {
     pub size: u32,
 }
 
-// A reply's number, the channels, the samples that a channel has in 10 ms, and the mask that says which speakers the
-// channels are for, 0 where the format says none: all 0 where it is refused.
+// The channels, the samples that a channel has in 10 ms, and the mask that says which speakers the channels are for. The
+// mask is 0 where there is none: an extended format can say 0 itself, so an Option would have two values for no mask.
 #[derive(Clone, Copy)]
 pub struct Format {
-    pub reply: u32,
     pub channels: usize,
     pub samples: usize,
     pub mask: u32,
@@ -66,46 +66,58 @@ pub fn read_chunk(bytes: &[u8]) -> Chunk
     }
 }
 
-// What a format chunk is refused with: 5 below 16 bytes; 7 where the samples are not plain ones of 16 bits; 6 where
-// a group of samples has not two bytes for each channel; 1 where the channels are not 1 to 8, or the samples of
-// 10 ms are no frame's.
-fn format_refusal(bytes: &[u8]) -> u32
-    ensures { result ≡ format_refusal bytes.now }
+// Whether these are the sizes of a frame: 1 to 8 channels, each with the samples of 10 ms.
+pub fn is_sizes(channels: usize, samples: usize) -> bool
+    ensures { result ≡ is_sizes channels samples }
+{
+    (1 <= channels) & (channels <= 8) & frames::is_samples(samples)
+}
+
+// Refuses a format chunk: below 16 bytes as cut; where the samples are not plain ones of 16 bits for its version; where
+// a group of samples has not two bytes for each channel for its length; and for its shape where the channels are not
+// 1 to 8, or the samples of 10 ms are no frame's.
+fn check_format(bytes: &[u8]) -> Result<(), Refusal>
+    ensures { result ≡ handed (format_refusal bytes.now) tt }
 {
     let tag = two_at(bytes, 0);
     let later = two_at(bytes, 24);
-    let channels = two_at(bytes, 2);
-    let rate = four_at(bytes, 4);
-    let group = two_at(bytes, 12);
+    let channels = two_at(bytes, 2) as usize;
+    let rate = four_at(bytes, 4) as usize;
+    let group = two_at(bytes, 12) as usize;
     let bits = two_at(bytes, 14);
     let plain = (tag == PLAIN) | ((tag == EXTENDED) & (later == PLAIN));
+    let kind = plain & (bits == 16);
+    let together = group == 2 * channels;
     let shape = (1 <= channels)
         & (channels <= 8)
         & (rate % 100 == 0)
-        & frames::is_samples((rate / 100) as usize);
-    let after_group = floats::pick(shape, DONE, SHAPE);
-    let after_kind = floats::pick(group == 2 * channels, after_group, LENGTH);
-    let after_length = floats::pick(plain & (bits == 16), after_kind, VERSION);
-    floats::pick(16 <= bytes.len(), after_length, CUT)
+        & frames::is_samples(rate / 100);
+    if bytes.len() < 16 {
+        Err(Refusal::Cut)
+    } else if !kind {
+        Err(Refusal::Version)
+    } else if !together {
+        Err(Refusal::Length)
+    } else if !shape {
+        Err(Refusal::Shape)
+    } else {
+        Ok(())
+    }
 }
 
 // The channels, the samples of 10 ms and the mask that a format chunk says, where it is not refused. Only an extended
 // format says a mask.
-pub fn read_format(bytes: &[u8]) -> Format
-    ensures { result ≡ format_of bytes.now }
+pub fn read_format(bytes: &[u8]) -> Result<Format, Refusal>
+    ensures { result ≡ handed (format_of bytes.now).reply (said (format_of bytes.now)) }
 {
-    let reply = format_refusal(bytes);
-    let ok = reply == DONE;
+    check_format(bytes)?;
     let tag = two_at(bytes, 0);
-    let channels = two_at(bytes, 2) as usize;
-    let samples = (four_at(bytes, 4) / 100) as usize;
     let mask = four_at(bytes, 20);
-    Format {
-        reply,
-        channels: floats::pick(ok, channels, 0),
-        samples: floats::pick(ok, samples, 0),
-        mask: floats::pick(ok & (tag == EXTENDED), mask, 0),
-    }
+    Ok(Format {
+        channels: two_at(bytes, 2) as usize,
+        samples: (four_at(bytes, 4) / 100) as usize,
+        mask: if tag == EXTENDED { mask } else { 0 },
+    })
 }
 
 // How many bytes a head with this mask has: without one, which is 0, it has 44, and with one 68.
@@ -141,7 +153,7 @@ fn put_head(channels: u32, samples: u32, mask: u32, size: u32, out: &mut [u8])
     let long = head_bytes(mask);
     let rest = following_bytes(long, size);
     let bytes = floats::pick(none, 16, 40);
-    let tag = floats::pick(none, PLAIN, EXTENDED);
+    let tag = floats::pick(none, PLAIN, EXTENDED) as u32;
     let rate = samples * 100;
     let group = 2 * channels;
     let second = rate * group;
@@ -151,7 +163,7 @@ fn put_head(channels: u32, samples: u32, mask: u32, size: u32, out: &mut [u8])
     let more = [
         0x0010_0016,
         mask,
-        PLAIN,
+        PLAIN as u32,
         0x0010_0000,
         0xaa00_0080,
         0x719b_3800,
@@ -163,22 +175,22 @@ fn put_head(channels: u32, samples: u32, mask: u32, size: u32, out: &mut [u8])
     put_fours(&last, out, long - 8);
 }
 
-// Writes the head of a file with so many channels, so many samples a channel in 10 ms, this mask, where 0 is none, and so
-// many bytes of samples to the start of a lent buffer. Refused are channels or samples that are no frame's with 1, and a
-// buffer that is shorter than the head with 8; nothing is written then.
-pub fn write_head(channels: usize, samples: usize, mask: u32, size: u32, out: &mut [u8]) -> u32
-    ensures value { result ≡ (put_head channels samples mask size out.old).reply }
-    ensures out_after { out.new ≡ (put_head channels samples mask size out.old).out }
+// Writes the head of a file of this format with so many bytes of samples to the start of a lent buffer. Refused are
+// channels or samples that are no frame's for their shape, and a buffer that is shorter than the head for want of room;
+// nothing is written then.
+pub fn write_head(format: Format, size: u32, out: &mut [u8]) -> Result<(), Refusal>
+    ensures value { result ≡ handed (put_head format.channels format.samples format.mask size out.old).reply tt }
+    ensures out_after { out.new ≡ (put_head format.channels format.samples format.mask size out.old).out }
 {
-    let shape = (1 <= channels) & (channels <= 8) & frames::is_samples(samples);
-    if shape {
-        if head_bytes(mask) <= out.len() {
-            put_head(channels as u32, samples as u32, mask, size, out);
-            DONE
-        } else {
-            ROOM
-        }
+    let channels = format.channels;
+    let samples = format.samples;
+    let mask = format.mask;
+    if !is_sizes(channels, samples) {
+        Err(Refusal::Shape)
+    } else if out.len() < head_bytes(mask) {
+        Err(Refusal::Room)
     } else {
-        SHAPE
+        put_head(channels as u32, samples as u32, mask, size, out);
+        Ok(())
     }
 }

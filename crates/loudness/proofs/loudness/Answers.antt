@@ -1,21 +1,20 @@
 -- `loudness::loudness` meets its contract: what is not refused is heard. Assumes nothing.
-use mathlib.Core.Path.{sym, ◌∙◌}
-use native.Mathlib.Omega.{arith}
+use Rattle.std.proofs.Common.{sym, ◌∙◌}
+use Rattle.units.specs.Handed.{handed, refusal_of}
 use Rattle.loudness.specs.Laws.Sound.{frame_heard, frame_refused}
 use Rattle.loudness.proofs.loudness.Goals as goal
 
-pub all_channels-all-requires : goal.all_channels-all-requires
-all_channels-all-requires c = sym c.is_frame.ensures ∙ c.if-is_frame.true
+pub all_channels-requires : goal.all_channels-requires
+all_channels-requires c = sym c.is_frame.ensures ∙ c.if-not-is_frame.false
 
-pub overflow_cast-result : goal.overflow_cast-result
-overflow_cast-result c = omega (arith, c.all_channels-all.ensures.peak_bound)
-
-pub returns-then-is_frame : goal.returns-then-is_frame
-returns-then-is_frame c =
+pub returns : goal.returns
+unfolding handed
+returns c =
     let a = c.args in
-    rw (frame_heard a.bytes.now a.channels a.samples (sym c.is_frame.ensures ∙ c.if-is_frame.true), c.all_channels-all.ensures.square_value, c.all_channels-all.ensures.peak_value)
+    rw (frame_heard a.bytes.now a.channels a.samples (sym c.is_frame.ensures ∙ c.if-not-is_frame.false), c.all_channels.ensures.square_value, c.all_channels.ensures.peak_value)
 
-pub returns-else-is_frame : goal.returns-else-is_frame
-returns-else-is_frame c =
+pub returns-then-not-is_frame : goal.returns-then-not-is_frame
+unfolding handed refusal_of
+returns-then-not-is_frame c =
     let a = c.args in
-    sym (frame_refused a.bytes.now a.channels a.samples (sym c.is_frame.ensures ∙ c.if-is_frame.false))
+    rw (frame_refused a.bytes.now a.channels a.samples (sym c.is_frame.ensures ∙ c.if-not-is_frame.true))

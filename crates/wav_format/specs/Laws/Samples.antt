@@ -1,15 +1,19 @@
 -- The samples of a frame to and from bytes: how many they are, and where one more stands. Laws.
 -- Assumes nothing.
-use Rattle.std.specs.Prelude.{◌≡◌, ℕ, zero, suc, ◌+◌, ◌*◌, ◌/◌, ◌%◌, ◌<◌, ◌≤◌, true, false, ◌&&◌, List, [], ◌∷◌, ◌++◌, length, get_or, take, drop, ◌==◌, refl, Float}
+use Rattle.std.specs.Prelude.{◌≡◌, ℕ, zero, suc, ◌+◌, ◌-◌, ◌*◌, ◌/◌, ◌%◌, ◌<◌, ◌≤◌, Bool, true, false, cond, ◌&&◌, pos, negsuc, nat_lt, List, [], ◌∷◌, ◌++◌, length, get_or, take, drop, ◌==◌, refl, Float}
 use Rattle.std.proofs.Common.{append-nil, le_trans, le_of_lt, mod-lt, div-le_self, mul-le-mul, mul-le-mul_right, le_of_suc-le-suc, zero-add, add-zero, not-suc-le-zero, add-one, arith, lit≤, length-append}
 use Rattle.std.specs.Float.{binary32}
-use Rattle.std.specs.Float.Ieee.{of_bits}
+use Rattle.std.specs.Float.Ieee.{of_bits, of_int, neg, round}
+use Rattle.std.specs.Int.{w16, cast_signed}
+use mir.Val.{sel}
+use lib.Ieee.{Format, inf, odd, units, prec, low, emax}
+use Prim.Native.Nat.{◌^◌}
 use Rattle.units.specs.Replies.{done, bad_shape, bad_sample, no_room, refusal}
 use Rattle.units.specs.Output.{put}
 use Rattle.frames.specs.Shape.{is_shape}
 use Rattle.frames.specs.Facts.{shape_facts}
 use Rattle.wav_format.specs.Bytes.{little}
-use Rattle.wav_format.specs.Samples.{heard_from, frame_read, number_of, all_full_scale, bytes_from, frame_written}
+use Rattle.wav_format.specs.Samples.{sound_of, heard_from, frame_read, number_of, all_full_scale, bytes_from, frame_written}
 use Rattle.wav_format.specs.Laws.Bytes.{little_length, Begun, none_put, puts, put_fits, put_short}
 
 -- Within a list the default has no part in the element.
@@ -85,6 +89,34 @@ place channels samples n j h k =
       whole_samples = le_trans (div-le_self j samples) most;
       whole_channels = le_trans (div-le_self j channels) most;
     }
+
+-- ---- a sample's number as a signed number of 16 bits
+neg_odd : (d q k l : ℕ) → neg (odd d false q k l) ≡ odd d true q k l
+unfolding odd neg
+neg_odd d zero k l = refl
+neg_odd d (suc q) k l = refl
+
+neg_units : (f : Format) (q k : ℕ) → neg (units f false q k) ≡ units f true q k
+unfolding units neg
+neg_units f q k = go (nat_lt (q * 2 ^ k) (2 ^ (low f + suc (emax f))))
+  where
+    go : (b : Bool) → neg (cond b (odd (suc (prec f)) false q k (low f)) (inf false)) ≡ cond b (odd (suc (prec f)) true q k (low f)) (inf true)
+    go true = neg_odd (suc (prec f)) q k (low f)
+    go false = refl
+
+neg_round : (f : Format) (n : ℕ) → neg (round f false n 1) ≡ round f true n 1
+unfolding round
+neg_round f n = neg_units f _ _
+
+pub signed_sound : (n : ℕ) → n < 65536 → of_int binary32 (cast_signed w16 n) ≡ sound_of n
+unfolding sound_of of_int
+signed_sound n h = go (nat_lt n 32768)
+  where
+    go : (b : Bool) → of_int binary32 (sel b (pos n) (negsuc (65536 - suc n))) ≡ cond b (of_int binary32 (pos n)) (neg (of_int binary32 (pos (65536 - n))))
+    go true = refl
+    go false =
+        let e : suc (65536 - suc n) ≡ 65536 - n = omega arith in
+        rw (e, neg_round binary32 (65536 - n))
 
 -- ---- what a reader answers
 module _ (bytes : List ℕ) (frame : List Float) (channels samples : ℕ) where

@@ -1,59 +1,37 @@
 -- `wav_format::head::write_head` meets its contract: what is not refused is put where it fits. Assumes nothing.
 use Rattle.std.proofs.Common.{sym, ap, ◌∙◌, arith}
 use Rattle.units.specs.Output.{Put}
-use Rattle.frames.specs.Facts.{Sizes, sizes_facts}
+use Rattle.units.specs.Handed.{handed, refusal_of}
+use Rattle.frames.specs.Facts.{sizes_facts}
 use Rattle.wav_format.specs.Laws.Head.{head_written, head_short, head_refused}
 use Rattle.wav_format.proofs.head.write_head.Goals as goal
 
-pub overflow_cast-channels : goal.overflow_cast-channels
-overflow_cast-channels c =
-    let sizes_here : Sizes c.args.channels c.args.samples = sizes_facts c.args.channels c.args.samples (rw c.is_samples.ensures at c.if-shape.true) in
-    omega (arith, sizes_here.eight)
-
 pub overflow_cast-samples : goal.overflow_cast-samples
 overflow_cast-samples c =
-    let sizes_here : Sizes c.args.channels c.args.samples = sizes_facts c.args.channels c.args.samples (rw c.is_samples.ensures at c.if-shape.true) in
-    omega (arith, sizes_here.each.most)
+    let sizes = sizes_facts c.args.format.channels c.args.format.samples (sym c.is_sizes.ensures ∙ c.if-not-is_sizes.false) in
+    omega (arith, sizes.each.most)
 
-pub put_head-requires : goal.put_head-requires
-put_head-requires c =
-    let sizes_here : Sizes c.args.channels c.args.samples = sizes_facts c.args.channels c.args.samples (rw c.is_samples.ensures at c.if-shape.true) in
-    let s = sizes_here in
-    record {
-      channels_bound = s.eight;
-      samples_bound = s.each.most;
-      mask_in_bounds = rw c.head_bytes.ensures at c.if-head_bytes-out.true;
-    }
+pub put_head-requires-clause-samples_bound : goal.put_head-requires-clause-samples_bound
+put_head-requires-clause-samples_bound c =
+    (sizes_facts c.args.format.channels c.args.format.samples (sym c.is_sizes.ensures ∙ c.if-not-is_sizes.false)).each.most
 
-pub returns-then-head_bytes-out : goal.returns-then-head_bytes-out
-returns-then-head_bytes-out c =
-    let a = c.args in
-    let whole =
-    head_written a.channels a.samples a.mask a.size a.out.now (rw c.is_samples.ensures at c.if-shape.true)
-    (rw c.head_bytes.ensures at c.if-head_bytes-out.true)
-    in
-    record {
-      value = sym (ap (λ (p : Put). p.reply) whole);
-      out_after = c.put_head.ensures ∙ sym (ap (λ (p : Put). p.out) whole);
-    }
+pub returns-then-not-is_sizes : goal.returns-then-not-is_sizes
+unfolding handed refusal_of
+returns-then-not-is_sizes c =
+    let f = c.args.format in
+    let refused = head_refused f.channels f.samples f.mask c.args.size c.args.out.now (sym c.is_sizes.ensures ∙ c.if-not-is_sizes.true) in
+    record { value = rw refused; out_after = sym (ap (λ (p : Put). p.out) refused) }
 
-pub returns-else-head_bytes-out : goal.returns-else-head_bytes-out
-returns-else-head_bytes-out c =
-    let a = c.args in
-    let short =
-    head_short a.channels a.samples a.mask a.size a.out.now (rw c.is_samples.ensures at c.if-shape.true)
-    (rw c.head_bytes.ensures at c.if-head_bytes-out.false)
-    in
-    record {
-      value = sym (ap (λ (p : Put). p.reply) short);
-      out_after = sym (ap (λ (p : Put). p.out) short);
-    }
+pub returns-then-out-head_bytes : goal.returns-then-out-head_bytes
+unfolding handed refusal_of
+returns-then-out-head_bytes c =
+    let f = c.args.format in
+    let short = head_short f.channels f.samples f.mask c.args.size c.args.out.now (sym c.is_sizes.ensures ∙ c.if-not-is_sizes.false) (rw c.head_bytes.ensures at c.if-out-head_bytes.true) in
+    record { value = rw short; out_after = sym (ap (λ (p : Put). p.out) short) }
 
-pub returns-else-shape : goal.returns-else-shape
-returns-else-shape c =
-    let a = c.args in
-    let refused = head_refused a.channels a.samples a.mask a.size a.out.now (rw c.is_samples.ensures at c.if-shape.false) in
-    record {
-      value = sym (ap (λ (p : Put). p.reply) refused);
-      out_after = sym (ap (λ (p : Put). p.out) refused);
-    }
+pub returns-else-out-head_bytes : goal.returns-else-out-head_bytes
+unfolding handed
+returns-else-out-head_bytes c =
+    let f = c.args.format in
+    let whole = head_written f.channels f.samples f.mask c.args.size c.args.out.now (sym c.is_sizes.ensures ∙ c.if-not-is_sizes.false) (rw c.head_bytes.ensures at c.if-out-head_bytes.false) in
+    record { value = rw whole; out_after = c.put_head.ensures ∙ sym (ap (λ (p : Put). p.out) whole) }

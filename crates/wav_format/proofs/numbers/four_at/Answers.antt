@@ -20,4 +20,4 @@ overflow_add-result c = omega arith
 
 pub returns : goal.returns
 returns c =
-    four_bytes c.args.bytes.now c.args.at c.two_at-low.ensures.value c.two_at-high.ensures.value
+    four_bytes c.args.bytes.now c.args.at c.two_at-low.ensures c.two_at-high.ensures

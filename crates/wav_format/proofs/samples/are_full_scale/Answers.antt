@@ -7,15 +7,15 @@ use Rattle.wav_format.specs.Samples.{all_full_scale}
 use Rattle.lists.specs.Loops.{scan, scan_done}
 use Rattle.wav_format.proofs.samples.are_full_scale.Goals as goal
 
-pub loop-i-preserved : goal.loop-i-preserved
+pub loop-x-preserved : goal.loop-x-preserved
 unfolding all_full_scale
-loop-i-preserved c =
+loop-x-preserved c =
     let frame = c.args.frame.now in
-    let loop = c.loop-i in
+    let loop = c.loop-x in
     let ok = loop.ok in
     let r = c.is_full_scale-ok.result in (
       omega arith,
-      scan (λ (ys : List Float). ok && all_full_scale ys) (λ (ys : List Float). ok && r && all_full_scale ys) frame loop.i nan (omega arith)
+      scan (λ (ys : List Float). ok && all_full_scale ys) (λ (ys : List Float). ok && r && all_full_scale ys) frame loop.x-index nan (omega arith)
           (rw c.is_full_scale-ok.ensures (sym (and_assoc ok _ _)))
           ∙ loop.invariant.1,
     )
@@ -24,5 +24,5 @@ pub returns : goal.returns
 unfolding all_full_scale
 returns c =
     let frame = c.args.frame.now in
-    let loop = c.loop-i in
-    sym (and-true loop.ok) ∙ sym (scan_done (λ (ys : List Float). loop.ok && all_full_scale ys) frame loop.i (omega arith)) ∙ loop.invariant.1
+    let loop = c.loop-x in
+    sym (and-true loop.ok) ∙ sym (scan_done (λ (ys : List Float). loop.ok && all_full_scale ys) frame loop.x-index (omega arith)) ∙ loop.invariant.1

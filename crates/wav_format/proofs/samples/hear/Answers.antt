@@ -3,52 +3,38 @@ use Rattle.std.proofs.Common.{◌+◌, List, length, sym, refl, ◌∙◌, arith
 use lib.Ieee.{Float, nan}
 use Rattle.lists.specs.Loops.{in_place, in_place_done}
 use Rattle.wav_format.specs.Samples.{heard_from}
-use Rattle.wav_format.specs.Laws.Samples.{Place, place}
+use Rattle.wav_format.specs.Laws.Samples.{place}
 use Rattle.wav_format.proofs.samples.hear.Goals as goal
-use Rattle.wav_format.proofs.samples.hear.Goals.{In-loop-j}
-
-pub loop-j-init : goal.loop-j-init
-loop-j-init c = (refl, omega arith, refl)
-
-place_of : (c : In-loop-j) → Place c.args.channels c.args.samples c.loop-j.j
-place_of c =
-    place c.args.channels c.args.samples (length c.args.frame.now) c.loop-j.j c.requires (omega arith)
 
 pub nonzero_rem-place : goal.nonzero_rem-place
 nonzero_rem-place c =
-    let p = place_of c in
+    let p = place c.args.channels c.args.samples (length c.args.frame.now) c.loop-j.j c.requires (omega arith) in
     omega arith
 
 pub overflow_mul-place : goal.overflow_mul-place
 overflow_mul-place c =
-    let p = place_of c in
+    let p = place c.args.channels c.args.samples (length c.args.frame.now) c.loop-j.j c.requires (omega arith) in
     omega arith
 
 pub nonzero_div-place : goal.nonzero_div-place
 nonzero_div-place c =
-    let p = place_of c in
+    let p = place c.args.channels c.args.samples (length c.args.frame.now) c.loop-j.j c.requires (omega arith) in
     omega arith
 
 pub overflow_add-place : goal.overflow_add-place
 overflow_add-place c =
-    let p = place_of c in
+    let p = place c.args.channels c.args.samples (length c.args.frame.now) c.loop-j.j c.requires (omega arith) in
     omega arith
 
 pub overflow_mul-place-in-loop-j : goal.overflow_mul-place-in-loop-j
 overflow_mul-place-in-loop-j c =
-    let p = place_of c in
+    let p = place c.args.channels c.args.samples (length c.args.frame.now) c.loop-j.j c.requires (omega arith) in
     omega arith
 
 pub two_at-requires : goal.two_at-requires
 two_at-requires c =
-    let p = place_of c in
+    let p = place c.args.channels c.args.samples (length c.args.frame.now) c.loop-j.j c.requires (omega arith) in
     omega arith
-
-pub sound_of-requires : goal.sound_of-requires
-sound_of-requires c = c.two_at.ensures.upper_bound
-
-pub loop-j-smaller : goal.loop-j-smaller
-loop-j-smaller c = simp length-set (omega arith)
 
 pub loop-j-preserved : goal.loop-j-preserved
 unfolding heard_from
@@ -60,12 +46,9 @@ loop-j-preserved c =
       simp length-set (omega arith),
       in_place (λ (xs : List Float). heard_from bytes a.channels a.samples loop.j (length xs))
           (λ (xs : List Float). heard_from bytes a.channels a.samples (loop.j + 1) (length xs)) loop.frame loop.j nan _ (omega arith)
-          (rw (c.sound_of.ensures, c.two_at.ensures.value))
+          (rw (c.sound_of.ensures, c.two_at.ensures))
           ∙ loop.invariant.2,
     )
-
-pub shape_of-frame : goal.shape_of-frame
-shape_of-frame c = c.loop-j.invariant.0
 
 pub returns : goal.returns
 unfolding heard_from

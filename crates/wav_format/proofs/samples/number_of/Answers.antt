@@ -24,12 +24,13 @@ most c = subst (λ (z : ℕ). z ≤ 32768) (sym (cut c)) (rounded_most c.args.x 
 pub overflow_cast-size : goal.overflow_cast-size
 overflow_cast-size c = omega (arith, most c)
 
-pub overflow_sub-result : goal.overflow_sub-result
-overflow_sub-result c = omega (arith, most c.before)
-
 pub returns-then-x : goal.returns-then-x
 returns-then-x c =
-    ap (λ (z : ℕ). (65536 - z) % 65536) (cut c.before)
+    let same = cut_off c.args.x c.magnitude.ensures c.truncating_f32_to_u64-size.ensures in
+    let small = rounded_most c.args.x (full c.args.x (passed c.well_formed.0.1) (sym c.is_full_scale.ensures ∙ c.if-is_full_scale.true)) in
+    let turned : c.wrapping_neg.result ≡ (65536 - c.truncating_f32_to_u64-size.result) % 65536 = omega (arith, same, small) in
+    turned
+    ∙ ap (λ (z : ℕ). (65536 - z) % 65536) same
     ∙ sym (number_below c.args.x (sym c.is_full_scale.ensures ∙ c.if-is_full_scale.true) c.if-x.true)
 
 pub returns-else-x : goal.returns-else-x

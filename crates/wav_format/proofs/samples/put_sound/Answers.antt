@@ -12,7 +12,7 @@ loop-k-init c =
 
 place_of : (c : In-loop-k) → Place c.args.channels c.args.samples c.loop-k.k
 place_of c =
-    place c.args.channels c.args.samples (length c.args.frame.now) c.loop-k.k c.requires.frame_value c.loop-k-test.true
+    place c.args.channels c.args.samples (length c.args.frame.now) c.loop-k.k c.requires.frame_value (omega arith)
 
 pub nonzero_rem-k : goal.nonzero_rem-k
 nonzero_rem-k c =
