@@ -1,7 +1,6 @@
 -- A reader of a strip that comes in pieces: what comes out of it at each byte, at the strip's end, and of a block. Definitions only.
-use Rattle.std.specs.Prelude.{Bool, true, false, ◌&&◌, cond, List, [], ◌∷◌, ℕ, suc, ◌+◌, eqb, ltb, take, set, replicate}
+use Rattle.std.specs.Prelude.{Bool, true, false, ◌&&◌, cond, List, [], ◌∷◌, ℕ, suc, ◌+◌, eqb, leb, ltb, take, set, replicate}
 use Rattle.units.specs.Replies.{done, cut, bad_setting}
-use Rattle.units.specs.Handed.{number_of}
 use Rattle.strip_format.specs.Fields.{size}
 use Rattle.strip_format.specs.Format.{version_of, head_fields, Entry, figures, gap}
 use Rattle.strip_format.specs.Calls.{HeadRead, Read, read_head, read_record}
@@ -9,8 +8,6 @@ use Rattle.strip_format.specs.declared.Version.{Version}
 use Rattle.strip_format.specs.declared.Version.TheVariants.{One, Two}
 use Rattle.strip_format.specs.declared.Head.{Head}
 use Rattle.strip_reader.specs.declared.Reader.{Reader}
-use Rattle.strip_reader.specs.declared.Stage.{Stage}
-use Rattle.strip_reader.specs.declared.Stage.TheVariants as Stages
 use Rattle.strip_reader.specs.declared.Got.{Got}
 use Rattle.strip_reader.specs.declared.Got.TheVariants as Cases
 use Rattle.strip_reader.specs.declared.Step.{Step}
@@ -26,13 +23,12 @@ pub data Handed : Type 0 where
 
 -- what each case of the code hands out
 unfoldable pub handed : Got → Handed
-unfolding number_of
 handed Cases.More = more
 handed (Cases.Head h) = head h
 handed (Cases.Record f) = entry (figures f)
 handed Cases.Gap = entry gap
 handed Cases.End = end
-handed (Cases.Refused e) = refused (number_of e)
+handed (Cases.Refused reply) = refused reply
 
 unfoldable pub is_more : Handed → Bool
 is_more more = true
@@ -47,30 +43,14 @@ abbrev pub room : ℕ
 room = size (head_fields Two)
 
 -- what it waits for: the rest of the head, the rest of a record, or nothing, after a refusal
-abbrev pub at_head : Stage
-at_head = Stages.Head
+abbrev pub at_head : ℕ
+at_head = 0
 
-abbrev pub at_records : Stage
-at_records = Stages.Records
+abbrev pub at_records : ℕ
+at_records = 1
 
-abbrev pub over : Stage
-over = Stages.Over
-
--- which of them it is
-abbrev pub is_head : Stage → Bool
-is_head Stages.Head = true
-is_head Stages.Records = false
-is_head Stages.Over = false
-
-abbrev pub is_records : Stage → Bool
-is_records Stages.Head = false
-is_records Stages.Records = true
-is_records Stages.Over = false
-
-abbrev pub is_over : Stage → Bool
-is_over Stages.Head = false
-is_over Stages.Records = false
-is_over Stages.Over = true
+abbrev pub over : ℕ
+over = 2
 
 -- a reader that has seen no byte: of a strip of one version, or of any, and then 1 stands in the version's place until the head is known
 unfoldable pub begun : Bool → Version → Reader
@@ -89,9 +69,9 @@ unfoldable pub asked : Bool → Version → List ℕ → Version
 unfolding version_of
 asked any v bytes = cond any (version_of bytes) v
 
--- there is room for one more byte; what it waits for is one of the three in any case
+-- there is room for one more byte, and what it waits for is one of the three
 unfoldable pub passes : Reader → Bool
-passes r = ltb r.count room
+passes r = ltb r.count room && leb r.stage over
 
 -- ---- a byte
 -- what came out, and the reader that goes on
@@ -131,9 +111,9 @@ fed r byte =
     let held = set r.held r.count byte in
     let bytes = take (r.count + 1) held in
     cond (passes r)
-    (cond (is_over r.stage)
+    (cond (eqb r.stage over)
     (record { reader = r; got = more })
-    (cond (is_head r.stage) (head_fed r held (r.count + 1) (read_head (asked r.any r.version bytes) bytes))
+    (cond (eqb r.stage at_head) (head_fed r held (r.count + 1) (read_head (asked r.any r.version bytes) bytes))
     (record_fed r held (r.count + 1) (read_record r.version bytes 0))))
     (record { reader = r; got = refused bad_setting })
 
@@ -142,7 +122,7 @@ unfoldable pub finished : Reader → Handed
 unfolding passes
 finished r =
     cond (passes r)
-    (cond (is_over r.stage) more (cond (is_records r.stage && eqb r.count 0) end (refused cut)))
+    (cond (eqb r.stage over) more (cond (eqb r.stage at_records && eqb r.count 0) end (refused cut)))
     (refused bad_setting)
 
 -- ---- a block: its bytes until something comes out, and how many these are

@@ -11,13 +11,13 @@ use strip_format::{Entry, HEAD_BYTES, Head, Version, read_head, read_head_in, re
 use units::figures::Figures;
 use units::refusals::Refusal;
 
-// What a reader waits for: the rest of the head, the rest of a record, or nothing, after a refusal.
-#[derive(Clone, Copy, Debug, PartialEq, Eq, Hash)]
-pub enum Stage {
-    Head,
-    Records,
-    Over,
-}
+// What a reader waits for: the rest of the head, the rest of a record, or nothing, after a refusal. They are numbers, and no
+// enum: a reader that is handed in may have any number there, and `passes` refuses one that is none of these.
+const HEAD: u32 = 0;
+
+const RECORDS: u32 = 1;
+
+const OVER: u32 = 2;
 
 // The bytes of a head or a record that is not whole yet, how many they are, what the reader waits for, whether it takes
 // a strip of any version, and the version: the strip's, once its head is known; before it the only one that is taken, and
@@ -29,13 +29,14 @@ pub enum Stage {
 pub struct Reader {
     pub held: [u8; HEAD_BYTES],
     pub count: usize,
-    pub stage: Stage,
+    pub stage: u32,
     pub any: bool,
     pub version: Version,
 }
 
-// What comes out: nothing yet; the head; the figures of a record; a gap; the end, after the last whole record; or that
-// with which the head or the next record is refused.
+// What comes out: nothing yet; the head; the figures of a record; a gap; the end, after the last whole record; or the
+// reply's number with which the head or the next record is refused. It is a number, and no `Refusal`: what takes it, as
+// `is_more` does, takes any number there.
 #[derive(Clone, Copy)]
 pub enum Got {
     More,
@@ -43,7 +44,7 @@ pub enum Got {
     Record(Figures),
     Gap,
     End,
-    Refused(Refusal),
+    Refused(u32),
 }
 
 // What came out, and the reader that goes on.
@@ -97,7 +98,7 @@ fn with_head(
             reader: Reader {
                 held,
                 count: 0,
-                stage: Stage::Records,
+                stage: RECORDS,
                 version: head.version,
                 ..reader
             },
@@ -107,7 +108,7 @@ fn with_head(
             reader: Reader {
                 held,
                 count,
-                stage: Stage::Head,
+                stage: HEAD,
                 ..reader
             },
             got: Got::More,
@@ -116,10 +117,10 @@ fn with_head(
             reader: Reader {
                 held,
                 count: 0,
-                stage: Stage::Over,
+                stage: OVER,
                 ..reader
             },
-            got: Got::Refused(refusal),
+            got: Got::Refused(refusal.number()),
         },
     }
 }
@@ -140,7 +141,7 @@ fn with_record(
             reader: Reader {
                 held,
                 count: 0,
-                stage: Stage::Records,
+                stage: RECORDS,
                 ..reader
             },
             got: match entry {
@@ -152,7 +153,7 @@ fn with_record(
             reader: Reader {
                 held,
                 count,
-                stage: Stage::Records,
+                stage: RECORDS,
                 ..reader
             },
             got: Got::More,
@@ -161,10 +162,10 @@ fn with_record(
             reader: Reader {
                 held,
                 count: 0,
-                stage: Stage::Over,
+                stage: OVER,
                 ..reader
             },
-            got: Got::Refused(refusal),
+            got: Got::Refused(refusal.number()),
         },
     }
 }
@@ -178,7 +179,7 @@ impl Reader {
         Reader {
             held: [0; HEAD_BYTES],
             count: 0,
-            stage: Stage::Head,
+            stage: HEAD,
             any: true,
             version: Version::One,
         }
@@ -192,18 +193,18 @@ impl Reader {
         Reader {
             held: [0; HEAD_BYTES],
             count: 0,
-            stage: Stage::Head,
+            stage: HEAD,
             any: false,
             version,
         }
     }
 
-    // Whether a handed-in reader passes: there is room for one more byte.
+    // Whether a handed-in reader passes: there is room for one more byte, and it waits for something that there is.
     #[tactic(auto, unfolding(crate::specs::Reader::passes))]
     pub fn passes(self) -> bool
         ensures { result ≡ passes self }
     {
-        self.count < HEAD_BYTES
+        (self.count < HEAD_BYTES) & (self.stage <= OVER)
     }
 
     // Takes the next byte of the strip. A reader that fails its test is refused with 4 and stays as it is; after a
@@ -214,26 +215,24 @@ impl Reader {
         if !self.passes() {
             return Step {
                 reader: self,
-                got: Got::Refused(Refusal::Setting),
+                got: Got::Refused(Refusal::Setting.number()),
             };
         }
         let at = self.count;
         let n = at + 1;
         let mut held = self.held;
         held[at] = byte;
-        match self.stage {
-            Stage::Head => {
-                let read = head_of(self.any, self.version, &held[..n]);
-                with_head(self, held, n, read)
-            }
-            Stage::Records => {
-                let read = read_record(self.version, &held[..n], 0);
-                with_record(self, held, n, read)
-            }
-            Stage::Over => Step {
+        if self.stage == HEAD {
+            let read = head_of(self.any, self.version, &held[..n]);
+            with_head(self, held, n, read)
+        } else if self.stage == RECORDS {
+            let read = read_record(self.version, &held[..n], 0);
+            with_record(self, held, n, read)
+        } else {
+            Step {
                 reader: self,
                 got: Got::More,
-            },
+            }
         }
     }
 
@@ -244,12 +243,12 @@ impl Reader {
         ensures { handed result ≡ finished self }
     {
         if !self.passes() {
-            return Got::Refused(Refusal::Setting);
+            return Got::Refused(Refusal::Setting.number());
         }
         match self.stage {
-            Stage::Records if self.count == 0 => Got::End,
-            Stage::Head | Stage::Records => Got::Refused(Refusal::Cut),
-            Stage::Over => Got::More,
+            RECORDS if self.count == 0 => Got::End,
+            HEAD | RECORDS => Got::Refused(Refusal::Cut.number()),
+            _ => Got::More,
         }
     }
 

@@ -3,7 +3,7 @@
 -- Assumes nothing.
 use Rattle.std.specs.Prelude.{◌≡◌, refl, ◌⊎◌, Bool, true, false, List, [], ◌∷◌, ◌++◌, ℕ, zero, suc, ◌+◌, ◌≤◌, ◌<◌, eqb, length, take, drop, set}
 use Rattle.std.proofs.Common.{sym, ap, ◌∙◌, inl, inr, append_assoc, append-nil, add-one, arith, length-set, length-append, take-suc-set, drop_at, length-take-le}
-use borrow.Author.Tests.{lt-ltb, eq-eqb, ne_eqb, eqb-true, eqb-false}
+use borrow.Author.Tests.{le-leb, lt-ltb, eq-eqb, ne_eqb, eqb-true, eqb-false}
 use Rattle.units.specs.Replies.{done, cut}
 use Rattle.strip_format.specs.Fields.{size}
 use Rattle.strip_format.specs.Format.{head_fields, Entry, entry_size}
@@ -18,7 +18,6 @@ use Rattle.strip_reader.specs.Reader as Reading
 use Rattle.strip_reader.specs.Feeding.{Fold, joins, feed, whole, handed_out, ending, entries_then, handed_by}
 use Rattle.strip_reader.specs.Laws.Pieces.{joins_append, feed_blocks_lem}
 use Rattle.strip_reader.specs.declared.Reader.{Reader}
-use Rattle.strip_reader.specs.declared.Stage.{Stage}
 
 -- the bytes that a reader holds
 abbrev bytes_of : Reader → List ℕ
@@ -34,15 +33,15 @@ held_more : (r : Reader) (b : ℕ) → Ready r → take (r.count + 1) (set r.hel
 held_more r b h = rw (add-one r.count) (take-suc-set r.held r.count b (omega (arith, h.long, h.space)))
 
 -- and the reader with it
-with_byte : Reader → ℕ → Stage → Reader
+with_byte : Reader → ℕ → ℕ → Reader
 with_byte r b stage = record { held = set r.held r.count b; count = r.count + 1; stage = stage; any = r.any; version = r.version }
 
-emptied : Reader → ℕ → Stage → Version → Reader
+emptied : Reader → ℕ → ℕ → Version → Reader
 emptied r b stage v = record { held = set r.held r.count b; count = 0; stage = stage; any = r.any; version = v }
 
-passing : (r : Reader) → Ready r → Reading.passes r ≡ true
+passing : (r : Reader) → Ready r → r.stage ≤ Reading.over → Reading.passes r ≡ true
 unfolding Reading.passes
-passing r h = lt-ltb r.count Reading.room h.space
+passing r h s = rw (lt-ltb r.count Reading.room h.space, le-leb r.stage Reading.over s)
 
 -- ---- the version that a reader asks for
 -- Once the head is settled it stays, whatever follows.
@@ -71,17 +70,17 @@ module _ (r : Reader) (b : ℕ) (h : Ready r) where
   at_record : (v : Version) → r.version ≡ v → r.stage ≡ Reading.at_records
       → Reading.fed r b ≡ Reading.record_fed r (set r.held r.count b) (r.count + 1) (read_record v (bytes_of r ++ (b ∷ [])) 0)
   unfolding Reading.fed
-  at_record v w s = rw (passing r h, s, held_more r b h, w)
+  at_record v w s = rw (passing r h (omega arith), s, held_more r b h, w)
 
   at_head_lem : r.stage ≡ Reading.at_head
       → Reading.fed r b ≡ Reading.head_fed r (set r.held r.count b) (r.count + 1) (head_by r (bytes_of r ++ (b ∷ [])))
   unfolding Reading.fed
-  at_head_lem s = rw (passing r h, s, held_more r b h)
+  at_head_lem s = rw (passing r h (omega arith), s, held_more r b h)
 
 -- After a refusal nothing comes out any more.
 stays : (r : Reader) (b : ℕ) → Ready r → r.stage ≡ Reading.over → Reading.fed r b ≡ record { reader = r; got = Reading.more }
 unfolding Reading.fed
-stays r b h s = rw (passing r h, s)
+stays r b h s = rw (passing r h (omega arith), eq-eqb r.stage Reading.over s)
 
 feed_byte : (r : Reader) (b : ℕ) (bs : List ℕ) (f : Reading.Fed) → Reading.fed r b ≡ f
     → feed r (b ∷ bs) ≡ record { reader = (feed f.reader bs).reader; out = joins f.got (feed f.reader bs).out }
@@ -110,7 +109,7 @@ out_byte r b bs f e =
 
 out_silent : (r : Reader) (bs : List ℕ) → Ready r → r.stage ≡ Reading.over → out_of r bs ≡ []
 unfolding joins Reading.finished Reading.is_more
-out_silent r bs h s = ap ended_by (silent r bs h s) ∙ rw (passing r h, s)
+out_silent r bs h s = ap ended_by (silent r bs h s) ∙ rw (passing r h (omega arith), eq-eqb r.stage Reading.over s)
 
 -- ---- the records
 -- a reader at the records: it holds nothing, or the beginning of a record
@@ -120,7 +119,7 @@ record AtRecords (v : Version) (r : Reader) : Type 0 where
   version : r.version ≡ v
   begun : (r.count ≡ 0) ⊎ ((read_record v (bytes_of r) 0).reply ≡ cut)
 
-emptied_ready : (r : Reader) (b : ℕ) (stage : Stage) (v : Version) → Ready r → Ready (emptied r b stage v)
+emptied_ready : (r : Reader) (b stage : ℕ) (v : Version) → Ready r → Ready (emptied r b stage v)
 unfolding emptied
 emptied_ready r b stage v h = record { long = simp length-set h.long; space = omega arith }
 
@@ -180,11 +179,11 @@ cut_there v most xs h = rw h
 -- at the strip's end
 end_is : (r : Reader) → Ready r → r.stage ≡ Reading.at_records → r.count ≡ 0 → joins (Reading.finished r) [] ≡ Reading.end ∷ []
 unfolding joins Reading.finished Reading.is_more
-end_is r h s z = rw (passing r h, s, z)
+end_is r h s z = rw (passing r h (omega arith), s, z)
 
 cut_end : (r : Reader) → Ready r → r.stage ≡ Reading.at_records → (r.count ≡ 0 → ⊥) → joins (Reading.finished r) [] ≡ Reading.refused cut ∷ []
 unfolding joins Reading.finished Reading.is_more
-cut_end r h s n = rw (passing r h, s, ne_eqb r.count 0 n)
+cut_end r h s n = rw (passing r h (omega arith), s, ne_eqb r.count 0 n)
 
 none_left : (v : Version) (r : Reader) → AtRecords v r → (most : ℕ) → length (bytes_of r ++ []) ≤ most → out_of r [] ≡ entries_there most v (bytes_of r ++ [])
 unfolding feed
@@ -338,7 +337,7 @@ strip_taken v xs d = rw (eq-eqb (read_head v xs).reply done d, eq-eqb (read_head
 
 head_end : (r : Reader) → Ready r → r.stage ≡ Reading.at_head → joins (Reading.finished r) [] ≡ Reading.refused cut ∷ []
 unfolding joins Reading.finished Reading.is_more
-head_end r h s = rw (passing r h, s)
+head_end r h s = rw (passing r h (omega arith), s)
 
 -- a reader that waits on with one byte more of the head
 head_waits : (r : Reader) (b : ℕ) → Ready r → (head_by r (bytes_of r ++ (b ∷ []))).reply ≡ cut → AtHead (with_byte r b Reading.at_head)

@@ -1,5 +1,5 @@
 -- `strip_reader::Reader::take` meets its contract. Assumes nothing.
-use Rattle.std.proofs.Common.{◌≡◌, sym, ap, ◌∙◌, Bool, true, List, [], ℕ, ◌+◌, ◌≤◌, ◌<◌, length, take, set, length-set, length-take-le, arith, rules, ltb-true, Option, Result, Ok, None}
+use Rattle.std.proofs.Common.{◌≡◌, sym, ap, ◌∙◌, Bool, true, List, [], ℕ, ◌+◌, ◌≤◌, ◌<◌, length, take, set, length-set, length-take-le, arith, rules, ltb-true, leb-true, ◌∷◌, Option, Result, Ok, None}
 use Rattle.units.specs.Handed.{number_of}
 use Rattle.units.specs.declared.refusals.Refusal.{Refusal}
 use Rattle.strip_format.specs.Calls.{HeadRead, Read, read_head, refused_record, found, read_record, read_of, told, told_of}
@@ -7,6 +7,8 @@ use Rattle.strip_format.specs.Laws.Answers.{read_is}
 use Rattle.strip_format.specs.Laws.Whole.{Seen, here, over, refused, seen}
 use Rattle.strip_format.specs.declared.Version.{Version}
 use Rattle.strip_format.specs.declared.Entry.{Entry}
+use Rattle.lists.specs.Tests.{each_of}
+use Rattle.std.specs.Prelude.{ltb, leb}
 use Rattle.strip_reader.specs.Reader as Reading
 use Rattle.strip_reader.specs.Reader.{room, at_head, at_records, more, passes, Fed, handed, step_of, asked, head_fed, record_fed, fed}
 use Rattle.strip_reader.specs.declared.Reader.{Reader}
@@ -15,7 +17,12 @@ use Rattle.strip_reader.proofs.Reader.take.Goals as goal
 -- there is room for the byte
 some-room : (r : Reader) {b : Bool} → b ≡ passes r → b ≡ true → r.count < room
 unfolding passes
-some-room r p t = ltb-true r.count room (sym p ∙ t)
+some-room r p t = ltb-true r.count room (each_of (ltb r.count room ∷ leb r.stage Reading.over ∷ []) (sym p ∙ t) 0)
+
+-- and it waits for something that there is
+there : (r : Reader) {b : Bool} → b ≡ passes r → b ≡ true → r.stage ≤ Reading.over
+unfolding passes
+there r p t = leb-true r.stage Reading.over (each_of (ltb r.count room ∷ leb r.stage Reading.over ∷ []) (sym p ∙ t) 1)
 
 -- the bytes with it are within the room
 within : (held : List ℕ) (count byte : ℕ) → length held ≡ room → count < room → count + 1 ≤ length (set held count byte)
@@ -37,8 +44,8 @@ slice_bounds-head_of-end c =
     let long : length c.args.self.held ≡ room = search rules in
     sym (length-take-le _ _ (within c.args.self.held c.args.self.count _ long (some-room _ c.passes.ensures c.if-not-passes.false)))
 
-pub slice_bounds-held-end-in-Records : goal.slice_bounds-held-end-in-Records
-slice_bounds-held-end-in-Records c =
+pub slice_bounds-held-end-then-self-eq-RECORDS : goal.slice_bounds-held-end-then-self-eq-RECORDS
+slice_bounds-held-end-then-self-eq-RECORDS c =
     let long : length c.args.self.held ≡ room = search rules in
     within c.args.self.held c.args.self.count _ long (some-room _ c.passes.ensures c.if-not-passes.false)
 
@@ -49,7 +56,7 @@ slice_bounds-read_record-end c =
 
 pub returns-then-not-passes : goal.returns-then-not-passes
 unfolding step_of handed fed number_of
-returns-then-not-passes c = rw (← c.passes.ensures, c.if-not-passes.true)
+returns-then-not-passes c = rw (c.number.ensures, ← c.passes.ensures, c.if-not-passes.true)
 
 -- a reader that passes
 module _ (r : Reader) (byte : ℕ) {b : Bool} (p : b ≡ passes r) (t : b ≡ true) where
@@ -73,8 +80,8 @@ module _ (r : Reader) (byte : ℕ) {b : Bool} (p : b ≡ passes r) (t : b ≡ tr
   unfolding fed
   after_all z = rw (← p, t, z)
 
-pub returns-in-Head : goal.returns-in-Head
-returns-in-Head c = in_head _ _ c.passes.ensures c.if-not-passes.false c.in-Head.is c.head_of-read.ensures c.with_head.ensures
+pub returns-then-self-eq-HEAD : goal.returns-then-self-eq-HEAD
+returns-then-self-eq-HEAD c = in_head _ _ c.passes.ensures c.if-not-passes.false c.if-self-eq-HEAD.true c.head_of-read.ensures c.with_head.ensures
 
 -- of bytes that there are it is never said that the strip ends there
 never_ended : (v : Version) (bytes : List ℕ) (read : Result (Option Entry) Refusal) → 0 < length bytes → told read ≡ told_of (read_record v bytes 0) → read ≡ Ok None → ⊥
@@ -95,9 +102,11 @@ with_record-requires c =
     let all = length-take-le _ _ (within c.args.self.held c.args.self.count c.args.byte long (some-room _ c.passes.ensures c.if-not-passes.false)) in
     never_ended _ _ _ (omega (arith, all)) c.read_record-read.ensures
 
-pub returns-in-Records : goal.returns-in-Records
-returns-in-Records c = in-record _ _ c.passes.ensures c.if-not-passes.false _ c.in-Records.is c.read_record-read.ensures c.with_record.ensures
+pub returns-then-self-eq-RECORDS : goal.returns-then-self-eq-RECORDS
+returns-then-self-eq-RECORDS c = in-record _ _ c.passes.ensures c.if-not-passes.false _ c.if-self-eq-RECORDS.true c.read_record-read.ensures c.with_record.ensures
 
-pub returns-in-Over : goal.returns-in-Over
+pub returns-else-self-eq-RECORDS : goal.returns-else-self-eq-RECORDS
 unfolding step_of handed
-returns-in-Over c = after_all _ _ c.passes.ensures c.if-not-passes.false c.in-Over.is
+returns-else-self-eq-RECORDS c =
+    let most = there _ c.passes.ensures c.if-not-passes.false in
+    after_all _ _ c.passes.ensures c.if-not-passes.false (omega (arith, most, c.if-self-eq-HEAD.false, c.if-self-eq-RECORDS.false))
