@@ -1,7 +1,7 @@
 -- "The programs take 4 unless `--ring N` is given": the first two words of a command. Definitions only.
-use Rattle.std.specs.Prelude.{Bool, true, ◌&&◌, cond, List, ℕ, ◌+◌, ◌*◌, ◌-◌, leb, eqb, length, get_or}
+use Rattle.std.specs.Prelude.{Bool, true, ◌&&◌, cond, List, ℕ, ◌+◌, ◌*◌, ◌-◌, leb, eqb, length, get_or, Option, Some, None}
 use Rattle.saturation_protector_buffer.specs.Ring.{is_capacity, usual}
-use Rattle.ring_word.specs.declared.Asked.{Asked}
+use Rattle.ring_word.specs.declared.Wish.{Wish}
 
 -- `--ring`
 unfoldable pub is_ring : List ℕ → Bool
@@ -32,8 +32,18 @@ unfoldable pub number_of : List ℕ → ℕ
 unfolding one_digit two_digits
 number_of word = cond (eqb (length word) 1) (one_digit (get_or word 0 0)) (cond (eqb (length word) 2) (two_digits (get_or word 0 0) (get_or word 1 0)) 0)
 
+-- whether what the words ask for can be had, the capacity, and the number of the first word behind them
+pub record Asked : Type 0 where
+  pub ok : Bool
+  pub capacity : ℕ
+  pub from : ℕ
+
 -- the two words say the capacity, or they are something else, and it is the usual one
 unfoldable pub asked_by : List ℕ → List ℕ → Asked
 unfolding is_ring number_of is_capacity
 asked_by first second =
     cond (is_ring first) (record { ok = is_capacity (number_of second); capacity = number_of second; from = 3 }) (record { ok = true; capacity = usual; from = 1 })
+
+-- what the code answers: the wish, where it can be had
+unfoldable pub granted : Asked → Option Wish
+granted a = cond a.ok (Some (record { capacity = a.capacity; from = a.from })) None

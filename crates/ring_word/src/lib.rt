@@ -2,16 +2,16 @@
 
 #![tactic(auto)]
 
-ghost use Rattle.std.specs.Prelude.{◌≡◌};
-ghost use Rattle.ring_word.specs.Words.{is_ring, is_digit, one_digit, two_digits, number_of, asked_by};
+ghost use Rattle.std.specs.Prelude.{◌≡◌, ◌-◌, cond, Some, None};
+ghost use Rattle.std.specs.Option.{unwrap_or};
+ghost use Rattle.ring_word.specs.Words.{is_digit, is_ring, number_of, asked_by, granted};
 
 use saturation_protector_buffer::{is_capacity, usual_capacity};
 
-// What the first two words of a command ask for: whether that can be had, the capacity, and the number of the first word
-// behind them: 3, or 1 where they say no capacity, and then it is the usual one.
+// What the first two words of a command ask for: the capacity, and the number of the first word behind them: 3, or 1
+// where they say no capacity, and then it is the usual one.
 #[derive(Clone, Copy)]
-pub struct Asked {
-    pub ok: bool,
+pub struct Wish {
     pub capacity: u32,
     pub from: usize,
 }
@@ -20,74 +20,49 @@ pub struct Asked {
 fn is_ring(word: &[u8]) -> bool
     ensures { result ≡ is_ring word.now }
 {
-    if word.len() == 6 {
-        (word[0] == 45)
-            & (word[1] == 45)
-            & (word[2] == 114)
-            & (word[3] == 105)
-            & (word[4] == 110)
-            & (word[5] == 103)
+    word == b"--ring".as_slice()
+}
+
+// The number that a decimal digit is.
+#[tactic(auto, unfolding(crate::specs::Words::is_digit))]
+fn digit(byte: u8) -> Option<u32>
+    ensures { result ≡ cond (is_digit byte) (Some (byte - 48)) None }
+{
+    if (b'0' <= byte) & (byte <= b'9') {
+        Some(u32::from(byte - b'0'))
     } else {
-        false
+        None
     }
 }
 
-// Whether a byte is a decimal digit.
-fn is_digit(byte: u8) -> bool
-    ensures { result ≡ is_digit byte }
+// The number that a word of one or two digits is.
+#[tactic(auto, unfolding(crate::specs::Words::number_of, crate::specs::Words::one_digit, crate::specs::Words::two_digits))]
+fn number_of(word: &[u8]) -> Option<u32>
+    ensures { unwrap_or result 0 ≡ number_of word.now }
 {
-    (48 <= byte) & (byte <= 57)
-}
-
-// The number that a digit is: 0 where it is none.
-fn one_digit(byte: u8) -> u32
-    ensures { result ≡ one_digit byte }
-{
-    if is_digit(byte) { byte as u32 - 48 } else { 0 }
-}
-
-// The number that two digits are: 0 where one of them is none.
-fn two_digits(tens: u8, ones: u8) -> u32
-    ensures { result ≡ two_digits tens ones }
-{
-    if is_digit(tens) & is_digit(ones) {
-        10 * (tens as u32 - 48) + (ones as u32 - 48)
-    } else {
-        0
+    match word {
+        [ones] => digit(*ones),
+        [tens, ones] => Some(10 * digit(*tens)? + digit(*ones)?),
+        _ => None,
     }
 }
 
-// The number that a word of one or two digits is: 0 where it is none.
-fn number_of(word: &[u8]) -> u32
-    ensures { result ≡ number_of word.now }
-{
-    if word.len() == 1 {
-        one_digit(word[0])
-    } else {
-        if word.len() == 2 {
-            two_digits(word[0], word[1])
-        } else {
-            0
-        }
-    }
-}
-
-// What the first two words of a command ask for; a word that is not there is empty.
-pub fn ring_asked(first: &[u8], second: &[u8]) -> Asked
-    ensures { result ≡ asked_by first.now second.now }
+// What the first two words of a command ask for; a word that is not there is empty. None where no ring has that capacity.
+#[tactic(auto, unfolding(crate::specs::Words::granted, crate::specs::Words::asked_by))]
+pub fn ring_asked(first: &[u8], second: &[u8]) -> Option<Wish>
+    ensures { result ≡ granted (asked_by first.now second.now) }
 {
     if is_ring(first) {
-        let capacity = number_of(second);
-        Asked {
-            ok: is_capacity(capacity),
-            capacity,
-            from: 3,
+        let capacity = number_of(second)?;
+        if is_capacity(capacity) {
+            Some(Wish { capacity, from: 3 })
+        } else {
+            None
         }
     } else {
-        Asked {
-            ok: true,
+        Some(Wish {
             capacity: usual_capacity(),
             from: 1,
-        }
+        })
     }
 }

@@ -1,26 +1,27 @@
--- `ring_word::is_ring` meets its contract. Assumes nothing.
-use mathlib.Core.Path.{◌≡◌}
-use mathlib.Core.Bool.{false, ◌&&◌}
-use mathlib.Core.List.{List}
+-- `ring_word::is_ring` meets its contract: the bytes of the word are compared one by one. Assumes nothing.
+use mathlib.Core.Bool.{and_assoc, and-true, and-false}
+use mathlib.Core.List.{List, [], ◌∷◌}
+use mathlib.Core.Path.{◌≡◌, refl}
 use Prim.Native.Nat.{ℕ}
-use borrow.Author.Tests.{eq-eqb, ne_eqb}
-use lib.Dec.{eqb}
-use lib.ListN.{length, get_or}
+use native.Mathlib.Omega.{arith}
+use borrow.Author.Tests.{ne_eqb}
+use lib.ListN.{length}
+use lib.Pointwise.{pointwise}
+use Rattle.std.specs.Prelude.{nat_eq}
 use Rattle.ring_word.specs.Words.{is_ring}
 use Rattle.ring_word.proofs.is_ring.Goals as goal
 
-module _ (word : List ℕ) where
-  as_long : length word ≡ 6
-      → eqb (get_or word 0 0) 45 && eqb (get_or word 1 0) 45 && eqb (get_or word 2 0) 114 && eqb (get_or word 3 0) 105 && eqb (get_or word 4 0) 110 && eqb (get_or word 5 0) 103 ≡ is_ring word
-  unfolding is_ring
-  as_long e = rw (eq-eqb (length word) 6 e)
+compared : (word : List ℕ) → pointwise nat_eq word (45 ∷ 45 ∷ 114 ∷ 105 ∷ 110 ∷ 103 ∷ []) ≡ is_ring word
+unfolding is_ring
+compared [] = refl
+compared (a ∷ []) = simp and-false
+compared (a ∷ b ∷ []) = simp and-false
+compared (a ∷ b ∷ d ∷ []) = simp and-false
+compared (a ∷ b ∷ d ∷ e ∷ []) = simp and-false
+compared (a ∷ b ∷ d ∷ e ∷ f ∷ []) = simp and-false
+compared (a ∷ b ∷ d ∷ e ∷ f ∷ g ∷ []) = simp (and_assoc, and-true)
+compared (a ∷ b ∷ d ∷ e ∷ f ∷ g ∷ h ∷ more) =
+    rw (ne_eqb (length (a ∷ b ∷ d ∷ e ∷ f ∷ g ∷ h ∷ more)) 6 (λ e. absurd (omega arith))) (simp and-false)
 
-  of-another : (length word ≡ 6 → ⊥) → false ≡ is_ring word
-  unfolding is_ring
-  of-another n = rw (ne_eqb (length word) 6 n)
-
-pub returns-then-word-eq6 : goal.returns-then-word-eq6
-returns-then-word-eq6 c = as_long c.args.word.now c.if-word-eq6.true
-
-pub returns-else-word-eq6 : goal.returns-else-word-eq6
-returns-else-word-eq6 c = of-another c.args.word.now c.if-word-eq6.false
+pub returns : goal.returns
+returns c = rw (c.eq.ensures, c.as_slice.ensures) (compared c.args.word.now)
