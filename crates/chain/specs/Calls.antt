@@ -1,8 +1,10 @@
 -- What each call of the chain answers, refusals first. Definitions only.
-use Rattle.std.specs.Prelude.{true, false, ◌&&◌, cond, List, ℕ, eqb, Float}
+use Rattle.std.specs.Prelude.{true, false, ◌&&◌, cond, List, ℕ, eqb, Float, Result, Ok, Err}
 use Rattle.std.specs.Float.{binary32}
 use Rattle.std.specs.Float.Ieee.{of_bits}
+use Rattle.units.specs.Handed.{number_of}
 use Rattle.units.specs.Replies.{done, refusal}
+use Rattle.units.specs.declared.refusals.Refusal.{Refusal}
 use Rattle.units.specs.Settings as Settings
 use Rattle.units.specs.declared.settings.Settings.{Settings as Set}
 use Rattle.frames.specs.Shape.{is_samples}
@@ -24,14 +26,15 @@ use Rattle.units.specs.Figures.{accepted}
 use Rattle.chain.specs.Chain.{initial, passes, samples_of, published}
 use Rattle.chain.specs.declared.Chain.{Chain}
 use Rattle.units.specs.declared.figures.Figures.{Figures}
-use Rattle.chain.specs.declared.Made.{Made}
 use Rattle.chain.specs.declared.Next.{Next}
-use Rattle.chain.specs.declared.Gapped.{Gapped}
 use Rattle.chain.specs.declared.Published.{Published}
-use Rattle.chain.specs.declared.Reading.{Reading}
-use Rattle.chain.specs.declared.SamplesRead.{SamplesRead}
 
 -- ---- a new chain
+-- a reply's number, and the chain that was made: all 0, false and identity where it is refused
+pub record Made : Type 0 where
+  pub reply : ℕ
+  pub chain : Chain
+
 -- with settings, a threshold, the samples of a channel and the capacity of the protector's rings
 unfoldable pub fresh : Set → ℕ → ℕ → ℕ → Chain
 unfolding Level.fresh Level.starting_level Headroom.fresh Gain.fresh Limiting.starting
@@ -95,9 +98,11 @@ pub record Told : Type 0 where
   pub answer : Said
   pub chain : Chain
 
-unfoldable pub told : Next → Told
-unfolding said
-told n = record { reply = n.reply; answer = said n.answer; chain = n.chain }
+-- of a chain and what its call hands back: a refusal tells N and the chain that came in
+unfoldable pub told : Chain → Result Next Refusal → Told
+unfolding said number_of
+told c (Ok n) = record { reply = done; answer = said n.answer; chain = n.chain }
+told c (Err e) = record { reply = number_of e; answer = non_speech; chain = c }
 
 -- what a frame is refused with: "1: .. or samples not those the .. chain was set to"; the bound of a sample is the controller's
 unfoldable pub refused : Chain → Figures → List Float → ℕ → ℕ → ℕ
@@ -120,6 +125,11 @@ called c f frame channels samples =
     }
 
 -- ---- a gap
+-- a reply's number, and the chain that goes on after a gap: the one that came in, where it is refused
+pub record Gapped : Type 0 where
+  pub reply : ℕ
+  pub chain : Chain
+
 -- "It ends the run as a non-speech frame does, sets the controller's waiting count back to T, handles no samples and moves no gain."
 unfoldable pub interrupted : Chain → Chain
 unfolding Level.interrupted Headroom.interrupted Gain.interrupted
@@ -142,9 +152,19 @@ nothing_published =
     let zero = of_bits binary32 0x0000_0000 in
     record { level = record { 0 = zero }; headroom = record { 0 = zero }; gain = record { 0 = zero }; confident = false }
 
+-- a reply's number, and what the chain publishes
+pub record Reading : Type 0 where
+  pub reply : ℕ
+  pub published : Published
+
 unfoldable pub published_told : Chain → Reading
 unfolding refusal passes
 published_told c = record { reply = refusal true (passes c) true true; published = cond (passes c) (published c) nothing_published }
+
+-- a reply's number, and the samples of a channel that the chain was made for
+pub record SamplesRead : Type 0 where
+  pub reply : ℕ
+  pub samples : ℕ
 
 unfoldable pub samples_told : Chain → SamplesRead
 unfolding refusal passes

@@ -1,13 +1,16 @@
 -- Of a call over a lent frame: what it comes to where it is refused and where it is not, and that the state that comes out of an accepted one passes. Laws.
 -- Assumes nothing.
-use Rattle.std.specs.Prelude.{◌≡◌, Bool, true, ◌&&◌, List, [], ◌∷◌, ℕ, length, Float}
+use Rattle.std.specs.Prelude.{◌≡◌, Bool, true, ◌&&◌, List, [], ◌∷◌, ℕ, length, Float, Result, Err}
 use Rattle.std.proofs.Math.Path.{refl, sym, ap, subst}
 use Rattle.std.proofs.Common.{ap₂, ◌∙◌}
 use Rattle.std.proofs.Math.Bool.{cond}
 use borrow.Author.Tests.{ne_eqb}
 use Rattle.std.proofs.Math.Dec.{eqb}
 use Rattle.lists.specs.Tests.{each_of}
+use Rattle.units.specs.Handed.{number_of, handed}
+use Rattle.units.specs.Laws.Handed.{check_number, number_not_done}
 use Rattle.units.specs.Replies.{done, refusal}
+use Rattle.units.specs.declared.refusals.Refusal.{Refusal}
 use Rattle.units.specs.Laws.Replies.{none_refused, refused_first}
 use Rattle.frames.specs.Shape.{is_shape}
 use Rattle.frames.specs.Samples.{largest_input, all_within}
@@ -19,29 +22,38 @@ use Rattle.gain_applier.specs.Range.{Held}
 use Rattle.speech_level_estimator.specs.Calls as Levels
 use Rattle.speech_level_estimator.specs.declared.Estimator.{Estimator}
 use Rattle.saturation_protector.specs.Calls as Headrooms
+use Rattle.saturation_protector.specs.Protector as Headroom
 use Rattle.saturation_protector.specs.Laws.Again as HeadroomAgain
 use Rattle.saturation_protector.specs.declared.Protector.{Protector}
 use Rattle.adaptive_digital_gain_controller.specs.Controller as Gain
 use Rattle.adaptive_digital_gain_controller.specs.Calls as Gaining
 use Rattle.adaptive_digital_gain_controller.specs.declared.Info.{Info}
 use Rattle.adaptive_digital_gain_controller.specs.declared.Controller.{Controller}
-use Rattle.adaptive_digital_gain_controller.specs.declared.Next.{Next as GainNext}
+use Rattle.adaptive_digital_gain_controller.specs.Calls.{Next as GainNext}
 use Rattle.limiter.specs.Limiter as Limiting
 use Rattle.limiter.specs.Scale.{FullScale}
 use Rattle.limiter.specs.declared.Limiter.{Limiter}
 use Rattle.units.specs.Figures.{accepted}
 use Rattle.chain.specs.Chain.{passes, samples_of}
 use Rattle.chain.specs.Answer.{non_speech, answer_of}
-use Rattle.chain.specs.Calls.{informed, Stepped, stepped, Told, Called, refused, called}
+use Rattle.chain.specs.Calls.{informed, Stepped, stepped, Told, told, Called, refused, called}
 use Rattle.chain.specs.Held.{HeldChain, HeldFigures, Ready}
 use Rattle.chain.specs.Laws.Passing.{Passed, passed_all}
-use Rattle.chain.specs.Laws.Steps.{level_is, heard, safe, info, heard_figures, safe_figures, info_accepted, controller_is, frame_is, stepped_ready, stepped_full_scale}
+use Rattle.chain.specs.Laws.Steps.{fine, level_done, level_is, limiter_done, heard, safe, info, heard_figures, safe_figures, info_accepted, controller_is, frame_is, stepped_ready, stepped_full_scale}
 use Rattle.chain.specs.declared.Chain.{Chain}
+use Rattle.chain.specs.declared.Next.{Next}
 use Rattle.units.specs.declared.figures.Figures.{Figures}
 
 -- where those tests pass, the samples decide
 alone : {a b d e f g : Bool} (w : Bool) → a ≡ true → b ≡ true → d ≡ true → e ≡ true → f ≡ true → g ≡ true → refusal a b d w ≡ refusal (e && true) f g w
 alone w p q r s t u = rw (p, q, r, s, t, u)
+
+-- the number of the controller's refusal is its reply
+pub controller_number : (k : Controller) (i : Info) (frame : List Float) (channels samples : ℕ) (made : Controller) (e : Refusal)
+    → Err e ≡ handed (Gaining.processed k i frame channels samples).next.reply made → number_of e ≡ (Gaining.processed k i frame channels samples).next.reply
+unfolding Gaining.processed frame_refusal
+controller_number k i frame channels samples made e h =
+    check_number (is_shape channels samples (length frame) && true) (Gain.passes k) (Gain.accepted i) (all_within largest_input frame) made e h
 
 -- what a call comes to, by whether it is accepted
 unfoldable pub shown : ℕ → Bool → Stepped → Chain → List Float → Called
@@ -95,6 +107,11 @@ module _ (c : Chain) (f : Figures) (frame : List Float) (channels samples : ℕ)
       let same = refused_early e n in
       (sym (ap (λ (z : Called). z.told) same), (sym (ap (λ (z : Called). z.frame) same), λ (h : r ≡ done). absurd (n h)))
 
+  -- What a refusal tells is what the definition says of one.
+  pub refused_told : (r : Result Next Refusal) (e : Refusal) → r ≡ Err e → number_of e ≡ early c f (length frame) channels samples → told c r ≡ (called c f frame channels samples).told
+  unfolding told
+  refused_told r e is k = rw is (refused_all k (number_not_done e)).0
+
   module _ (held : HeldChain c) (figures : HeldFigures f) (sound : Held frame) where
     module _ (ok : (called c f frame channels samples).told.reply ≡ done) where
       taken_it : refused c f frame channels samples ≡ done
@@ -123,13 +140,34 @@ module _ (c : Chain) (f : Figures) (frame : List Float) (channels samples : ℕ)
           subst (λ (z : Called). FullScale z.frame) (sym (called_accepted taken_it))
           (stepped_full_scale c f (record { held = held; state = tests.settings }) figures tests.figures frame channels samples sound taken_it)
 
+    -- where the first three tests pass neither the estimator nor the protector refuses
+    module _ (z : early c f (length frame) channels samples ≡ done) where
+      open_tests : (is_shape channels samples (length frame) && eqb samples (samples_of c) ≡ true) × (passes c ≡ true) × (accepted f ≡ true) × (true ≡ true)
+      open_tests = none_refused (is_shape channels samples (length frame) && eqb samples (samples_of c)) (passes c) (accepted f) true z
+
+      open_ready : Ready c
+      open_ready = record { held = held; state = open_tests.1 }
+
+      pub level_takes : (Levels.stepped c.estimator f.rms.0 f.probability).reply ≡ done
+      level_takes = level_done c.estimator f.rms.0 f.probability (passed_all c open_tests.1).estimator (heard_figures c f open_ready figures open_tests.2)
+
+      level_heard : (Levels.stepped c.estimator f.rms.0 f.probability).estimator ≡ heard c f
+      level_heard = level_is c.estimator f.rms.0 f.probability (passed_all c open_tests.1).estimator (heard_figures c f open_ready figures open_tests.2)
+
+      pub headroom_takes : (Headrooms.stepped c.protector f.probability f.peak.0 (Levels.stepped c.estimator f.rms.0 f.probability).estimator.level).reply ≡ done
+      unfolding Headrooms.stepped
+      headroom_takes =
+          rw level_heard
+          (fine (Headroom.passes c.protector) (Headrooms.figures f.probability f.peak.0 (heard c f).level) (passed_all c open_tests.1).protector
+          (safe_figures c f open_ready figures open_tests.2))
+
     -- what the code's calls come to where the first three tests pass
-    module _ (z : early c f (length frame) channels samples ≡ done) {first : Estimator} {second : Protector} {told : Info} {third : GainNext} {out : List Float}
+    module _ (z : early c f (length frame) channels samples ≡ done) {first : Estimator} {second : Protector} {report : Info} {third : GainNext} {out : List Float}
         (p : first ≡ (Levels.stepped c.estimator f.rms.0 f.probability).estimator)
         (q : second ≡ (Headrooms.stepped c.protector f.probability f.peak.0 first.level).protector)
-        (i : told ≡ informed first second f)
-        (n : third ≡ (Gaining.processed c.controller told frame channels samples).next)
-        (o : out ≡ (Gaining.processed c.controller told frame channels samples).frame) where
+        (i : report ≡ informed first second f)
+        (n : third ≡ (Gaining.processed c.controller report frame channels samples).next)
+        (o : out ≡ (Gaining.processed c.controller report frame channels samples).frame) where
       all : (is_shape channels samples (length frame) && eqb samples (samples_of c) ≡ true) × (passes c ≡ true) × (accepted f ≡ true) × (true ≡ true)
       all = none_refused (is_shape channels samples (length frame) && eqb samples (samples_of c)) (passes c) (accepted f) true z
 
@@ -150,7 +188,7 @@ module _ (c : Chain) (f : Figures) (frame : List Float) (channels samples : ℕ)
           ∙ ap (λ (x : Estimator). (Headrooms.stepped c.protector f.probability f.peak.0 x.level).protector) first_is
           ∙ HeadroomAgain.stepped_analyzed c.protector f.probability f.peak.0 (heard c f).level was.protector (safe_figures c f ready figures all.2)
 
-      info_is : told ≡ info c f
+      info_is : report ≡ info c f
       info_is = i ∙ ap₂ (λ (x : Estimator) (y : Protector). informed x y f) first_is second_is
 
       third_is : third ≡ (Gaining.processed c.controller (info c f) frame channels samples).next
@@ -182,6 +220,13 @@ module _ (c : Chain) (f : Figures) (frame : List Float) (channels samples : ℕ)
           called_refused reply_is k
           ∙ ap (λ (x : List Float). record { told = record { reply = third.reply; answer = non_speech; chain = c }; frame = x }) (sym (out_is ∙ frame_same k))
 
+      pub late_told : (r : Result Next Refusal) (e : Refusal) → r ≡ Err e → number_of e ≡ third.reply → (third.reply ≡ done → ⊥)
+          → (told c r ≡ (called c f frame channels samples).told) × (out ≡ (called c f frame channels samples).frame)
+      unfolding told
+      late_told r e is m k =
+          let same = refused_late k in
+          (rw (is, m) (sym (ap (λ (z : Called). z.told) same)), sym (ap (λ (z : Called). z.frame) same))
+
       -- Where it does not, the chain is that of the four calls, the limiter's being the last.
       module _ (k : third.reply ≡ done) {last : List Float} (m : last ≡ (Limiting.processed c.limiter out channels samples).frame) where
         done_it : refused c f frame channels samples ≡ done
@@ -205,6 +250,12 @@ module _ (c : Chain) (f : Figures) (frame : List Float) (channels samples : ℕ)
             }
         unfolding shown ended stepped
         step_ended = refl
+
+        -- it does not refuse what the controller hands on
+        pub limiter_takes : (Limiting.processed c.limiter out channels samples).next.reply ≡ done
+        limiter_takes =
+            ap (λ (x : List Float). (Limiting.processed c.limiter x channels samples).next.reply) out_put
+            ∙ limiter_done c f ready figures all.2 frame channels samples sound done_it
 
         pub accepted_late : called c f frame channels samples
             ≡ record { told = ended f.probability first second third.controller (Limiting.processed c.limiter out channels samples).next.limiter; frame = last }

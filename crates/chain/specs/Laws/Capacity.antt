@@ -10,7 +10,7 @@ use Rattle.frames.specs.Facts.{taken}
 use Rattle.saturation_protector.specs.Protector.{capacities}
 use Rattle.saturation_protector.specs.Laws.Capacity.{analyzed_capacities}
 use Rattle.saturation_protector.proofs.Gaps as HeadroomGaps
-use Rattle.saturation_protector.specs.declared.Next.{Next}
+use Rattle.saturation_protector.specs.Calls.{Next}
 use Rattle.chain.specs.Chain.{passes, samples_of, capacities_of}
 use Rattle.chain.specs.Calls.{stepped, refused, called, interrupted, gap}
 use Rattle.chain.specs.Laws.Passing.{passed_all}

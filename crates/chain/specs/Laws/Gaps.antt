@@ -27,7 +27,7 @@ use Rattle.chain.specs.Held.{HeldProtector, Ready}
 use Rattle.chain.specs.Laws.Frames.{either}
 use Rattle.chain.specs.Laws.Passing.{Passed, passed_all, passing}
 use Rattle.chain.specs.declared.Chain.{Chain}
-use Rattle.chain.specs.declared.Gapped.{Gapped}
+use Rattle.chain.specs.Calls.{Gapped}
 
 -- ---- of each part alone: one that passes does not refuse a gap
 level_gap : (c : Chain) → Level.passes c.estimator ≡ true → Levels.gap c.estimator ≡ record { reply = done; estimator = Level.interrupted c.estimator }
@@ -56,6 +56,21 @@ unfolding interrupted
 parts_interrupted c h =
     let p = passed_all c h in
     rw (level_gap c p.estimator, headroom_gap c p.protector, gain_gap c p.controller)
+
+-- None of them refuses.
+pub record GapsDone (c : Chain) : Type 0 where
+  pub estimator : (Levels.gap c.estimator).reply ≡ done
+  pub protector : (Headrooms.gap c.protector).reply ≡ done
+  pub controller : (Gaining.gap c.controller).reply ≡ done
+
+pub gaps_done : (c : Chain) → passes c ≡ true → GapsDone c
+gaps_done c h =
+    let p = passed_all c h in
+    record {
+      estimator = rw (level_gap c p.estimator) refl;
+      protector = rw (headroom_gap c p.protector) refl;
+      controller = rw (gain_gap c p.controller) refl;
+    }
 
 -- A chain that passes takes a gap.
 pub gap_taken : (c : Chain) → passes c ≡ true → gap c ≡ record { reply = done; chain = interrupted c }

@@ -1,8 +1,10 @@
 -- What the promises are worth: what is told of an answer determines it, so each leaves one outcome. Laws.
 -- Assumes nothing.
-use Rattle.std.specs.Prelude.{◌≡◌, refl, List, ℕ, get_or, Float}
-use Rattle.std.proofs.Common.{ap, ap₂, arith}
+use Rattle.std.specs.Prelude.{◌≡◌, refl, List, ℕ, get_or, Float, Result, Ok, Err}
+use Rattle.std.proofs.Common.{sym, ap, ap₂, arith}
 use Rattle.lists.specs.Promise.{one_outcome}
+use Rattle.units.specs.Laws.Handed.{number_one, number_not_done}
+use Rattle.units.specs.declared.refusals.Refusal.{Refusal}
 use Rattle.units.specs.declared.settings.Settings.{Settings as Set}
 use Rattle.chain.specs.Answer.{Said, said}
 use Rattle.chain.specs.Calls.{Told, made, told, called, gap}
@@ -10,8 +12,8 @@ use Rattle.chain.specs.declared.Answer.{Answer}
 use Rattle.chain.specs.declared.Answer.TheVariants.{NonSpeech, Waiting, Publishing}
 use Rattle.chain.specs.declared.Chain.{Chain}
 use Rattle.units.specs.declared.figures.Figures.{Figures}
-use Rattle.chain.specs.declared.Gapped.{Gapped}
-use Rattle.chain.specs.declared.Made.{Made}
+use Rattle.chain.specs.Calls.{Gapped}
+use Rattle.chain.specs.Calls.{Made}
 use Rattle.chain.specs.declared.Next.{Next}
 
 -- two cases with different numbers are not told as one
@@ -33,18 +35,20 @@ said_one (Publishing a b) (Publishing x y) h =
     ap₂ (λ (p q : Float). Publishing (record { 0 = p }) (record { 0 = q })) (ap (λ (s : Said). get_or s.values 0 a.0) h) (ap (λ (s : Said). get_or s.values 1 b.0) h)
 
 -- What is told of an answer determines it.
-pub told_one : (m n : Next) → told m ≡ told n → m ≡ n
+pub told_one : (c : Chain) (m n : Result Next Refusal) → told c m ≡ told c n → m ≡ n
 unfolding told
-told_one m n h =
-    let p : m.reply ≡ n.reply = ap (λ (t : Told). t.reply) h in
+told_one c (Ok m) (Ok n) h =
     let q : m.answer ≡ n.answer = said_one m.answer n.answer (ap (λ (t : Told). t.answer) h) in
     let r : m.chain ≡ n.chain = ap (λ (t : Told). t.chain) h in
-    λ i. record { reply = p i; answer = q i; chain = r i }
+    λ i. Ok (record { answer = q i; chain = r i })
+told_one c (Ok m) (Err e) h = absurd (number_not_done e (sym (ap (λ (t : Told). t.reply) h)))
+told_one c (Err d) (Ok n) h = absurd (number_not_done d (ap (λ (t : Told). t.reply) h))
+told_one c (Err d) (Err e) h = ap Err (number_one d e (ap (λ (t : Told). t.reply) h))
 
 module _ (c : Chain) (f : Figures) (frame : List Float) (channels samples : ℕ) where
   -- So the promise of `step` leaves one outcome, in what it answers
-  pub step_one : (m n : Next) → told m ≡ (called c f frame channels samples).told → told n ≡ (called c f frame channels samples).told → m ≡ n
-  step_one m n p q = told_one m n (one_outcome (told m) (told n) p q)
+  pub step_one : (m n : Result Next Refusal) → told c m ≡ (called c f frame channels samples).told → told c n ≡ (called c f frame channels samples).told → m ≡ n
+  step_one m n p q = told_one c m n (one_outcome (told c m) (told c n) p q)
 
   -- and in every sample;
   pub frame_one : (x y : List Float) → x ≡ (called c f frame channels samples).frame → y ≡ (called c f frame channels samples).frame → x ≡ y

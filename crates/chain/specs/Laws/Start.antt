@@ -1,6 +1,6 @@
 -- A chain at the start passes, and its numbers are f32. Laws.
 -- Assumes nothing.
-use Rattle.std.specs.Prelude.{◌≡◌, refl, Bool, false, ◌&&◌, [], ◌∷◌, ℕ, Float}
+use Rattle.std.specs.Prelude.{◌≡◌, refl, Bool, ◌&&◌, [], ◌∷◌, ℕ, Float}
 use Rattle.std.proofs.Common.{sym, ◌∙◌}
 use Rattle.std.proofs.Math.Path.{ap, ap₂, subst}
 use Rattle.std.proofs.Math.Bool.{true, cond}
@@ -39,12 +39,15 @@ use Rattle.chain.specs.Calls.{fresh, nothing, made}
 use Rattle.chain.specs.Held.{HeldProtector, Ready}
 use Rattle.chain.specs.Laws.Passing.{passing, alike_itself}
 use Rattle.chain.specs.declared.Chain.{Chain}
-use Rattle.chain.specs.declared.Made.{Made}
 
 -- nothing fails, so nothing is refused
 unrefused : (b : Bool) → b ≡ true → refusal true b true true ≡ done
 unfolding refusal
 unrefused b h = ap (λ (x : Bool). refusal true x true true) h
+
+unrefused_figure : (a b : Bool) → a ≡ true → b ≡ true → refusal true a b true ≡ done
+unfolding refusal
+unrefused_figure a b p q = ap₂ (λ (x y : Bool). refusal true x y true) p q
 
 shaped : (b : Bool) → b ≡ true → refusal b true true true ≡ done
 unfolding refusal
@@ -183,7 +186,7 @@ module _ (s : Set) (t samples capacity : ℕ) (h : GainRange.HeldSettings s) whe
     unfolding fresh Headroom.fresh Peaks.starting Ring.empty
     made_capacities = ap (λ (c : Chain). capacities_of c) made_fresh
 
--- ---- as the code makes it: each part by its own call, of a threshold and samples that are 0 where the chain is refused
+-- ---- as the code makes it: each part by its own call
 unfoldable pub four : Set → ℕ → ℕ → ℕ → Chain
 four s t samples capacity =
     record {
@@ -193,17 +196,17 @@ four s t samples capacity =
       limiter = (Limiting.made samples).limiter;
     }
 
--- A threshold of 0 is refused.
-no_frames : (s : Set) → Settings.accepted s && Settings.threshold 0 ≡ false
-no_frames s = none (Settings.accepted s)
-  where
-    none : (b : Bool) → b && false ≡ false
-    none true = refl
-    none false = refl
-
 headroom_is : (t n : ℕ) → Settings.threshold t ≡ true → is_capacity n ≡ true → (Headrooms.made initial t n).protector ≡ Headroom.fresh initial t n
 unfolding Headrooms.made
 headroom_is t n h k = ap (λ (b : Bool). cond b (Headroom.fresh initial t n) Headroom.nothing) (h and k and initial_headroom)
+
+headroom_done : (t n : ℕ) → Settings.threshold t ≡ true → is_capacity n ≡ true → (Headrooms.made initial t n).reply ≡ done
+unfolding Headrooms.made
+headroom_done t n h k = unrefused_figure (Settings.threshold t && is_capacity n) (Range.headroom initial) (h and k) initial_headroom
+
+limiter_done : (samples : ℕ) → is_samples samples ≡ true → (Limiting.made samples).reply ≡ done
+unfolding Limiting.made
+limiter_done samples n = shaped (is_samples samples) n
 
 four_fresh : (s : Set) (t samples capacity : ℕ) → Settings.accepted s && Settings.threshold t && is_capacity capacity ≡ true → is_samples samples ≡ true
     → four s t samples capacity ≡ fresh s t samples capacity
@@ -217,26 +220,39 @@ four_fresh s t samples capacity all n =
     let l = ap (λ (b : Bool). cond b (Limiting.starting samples) Limiting.none) n in
     λ i. record { estimator = e i; protector = p i; controller = g i; limiter = l i }
 
-four_nothing : (s : Set) (capacity : ℕ) → four s 0 0 capacity ≡ nothing
-unfolding four nothing Levels.made Headrooms.made Gaining.made Limiting.made is_samples
-four_nothing s capacity =
-    let e = ap (λ (b : Bool). cond b (Level.fresh s 0 (Level.starting_level s)) Level.nothing) (no_frames s) in
-    let g = ap (λ (b : Bool). cond b (Gain.fresh s 0) Gain.nothing) (no_frames s) in
-    λ i. record { estimator = e i; protector = Headroom.nothing; controller = g i; limiter = Limiting.none }
-
-four_is : (b : Bool) (s : Set) (t samples capacity : ℕ) → (b ≡ true → (is_samples samples ≡ true) × (Settings.accepted s && Settings.threshold t && is_capacity capacity ≡ true))
-    → four s (cond b t 0) (cond b samples 0) capacity ≡ cond b (fresh s t samples capacity) nothing
-four_is true s t samples capacity h = four_fresh s t samples capacity (h refl).1 (h refl).0
-four_is false s t samples capacity h = four_nothing s capacity
-
--- What the code's calls come to is the definition's.
-pub made_parts : (s : Set) (t samples capacity : ℕ) {a b d e : Bool} {reply frames size : ℕ} {chain : Chain}
-    → a ≡ is_samples samples → b ≡ Settings.accepted s → d ≡ Settings.threshold t → e ≡ is_capacity capacity → reply ≡ refusal a (b && d && e) true true
-    → frames ≡ cond (a && (b && d && e)) t 0 → size ≡ cond (a && (b && d && e)) samples 0
-    → chain ≡ four s frames size capacity → ◌≡◌ {A = Made} (record { reply = reply; chain = chain }) (made s t samples capacity)
+-- The first test's answer is the definition's.
+pub made_reply : (s : Set) (t samples capacity : ℕ) {a b d e : Bool}
+    → a ≡ is_samples samples → b ≡ Settings.accepted s → d ≡ Settings.threshold t → e ≡ is_capacity capacity
+    → refusal a (b && d && e) true true ≡ (made s t samples capacity).reply
 unfolding made
-made_parts s t samples capacity pa pb pd pe pr pf pz pc =
-    let setting = Settings.accepted s && Settings.threshold t && is_capacity capacity in
-    let ok = is_samples samples && setting in
-    let all = four_is ok s t samples capacity (λ (h : ok ≡ true). let q = each_of (is_samples samples ∷ setting ∷ []) h in (q 0, q 1)) in
-    rw (pr, pc, pf, pz, pa, pb, pd, pe, all)
+made_reply s t samples capacity pa pb pd pe = rw (pa, pb, pd, pe) refl
+
+-- that no part refuses
+pub record PartsDone (s : Set) (t samples capacity : ℕ) : Type 0 where
+  pub estimator : (Levels.made s t).reply ≡ done
+  pub protector : (Headrooms.made initial t capacity).reply ≡ done
+  pub controller : (Gaining.made s t).reply ≡ done
+  pub limiter : (Limiting.made samples).reply ≡ done
+
+-- Where that test passes no part refuses, and what the code's calls come to is the definition's.
+module _ (s : Set) (t samples capacity : ℕ) (k : (made s t samples capacity).reply ≡ done) where
+  whole : (is_samples samples ≡ true) × (Settings.accepted s && Settings.threshold t && is_capacity capacity ≡ true)
+  unfolding made
+  whole = let q = none_refused (is_samples samples) (Settings.accepted s && Settings.threshold t && is_capacity capacity) true true k in (q.0, q.1)
+
+  pub parts_done : PartsDone s t samples capacity
+  unfolding Levels.made Gaining.made
+  parts_done =
+      let each = each_of (Settings.accepted s ∷ Settings.threshold t ∷ is_capacity capacity ∷ []) whole.1 in
+      record {
+        estimator = unrefused (Settings.accepted s && Settings.threshold t) (each 0 and each 1);
+        protector = headroom_done t capacity (each 1) (each 2);
+        controller = unrefused (Settings.accepted s && Settings.threshold t) (each 0 and each 1);
+        limiter = limiter_done samples whole.0;
+      }
+
+  pub parts_made : four s t samples capacity ≡ (made s t samples capacity).chain
+  unfolding made
+  parts_made =
+      four_fresh s t samples capacity whole.1 whole.0
+      ∙ sym (ap (λ (b : Bool). cond b (fresh s t samples capacity) nothing) (whole.0 and whole.1))

@@ -51,7 +51,7 @@ use Rattle.chain.specs.Laws.Passing.{Passed, passed_all, passing, Inside, inside
 use Rattle.chain.specs.declared.Chain.{Chain}
 use Rattle.units.specs.declared.figures.Figures.{Figures}
 
-fine : (a b : Bool) → a ≡ true → b ≡ true → refusal true a b true ≡ done
+pub fine : (a b : Bool) → a ≡ true → b ≡ true → refusal true a b true ≡ done
 unfolding refusal
 fine a b p q = ap₂ (λ (x y : Bool). refusal true x y true) p q
 

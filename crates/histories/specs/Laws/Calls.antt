@@ -21,7 +21,7 @@ use Rattle.chain.specs.declared.Published.{Published}
 use Rattle.chain.specs.Laws.Steps.{stepped_samples}
 use Rattle.chain.specs.Laws.Calls.{shown, called_refused, called_accepted, called_ready, called_full_scale}
 use Rattle.chain.specs.Laws.Gaps.{gap_taken, gap_samples, gap_ready}
-use Rattle.chain.specs.declared.Gapped.{Gapped}
+use Rattle.chain.specs.Calls.{Gapped}
 use Rattle.histories.specs.Histories.{Sound, Event, frame, gap, takes, next, after, Out, out}
 use Rattle.histories.specs.Held.{HeldEvent, ReadyAt}
 use Rattle.histories.specs.Laws.Steps.{step_of}

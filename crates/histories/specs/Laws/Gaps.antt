@@ -17,7 +17,7 @@ use Rattle.chain.specs.Laws.Gaps.{gap_taken, gap_level, gap_headroom, gap_gain}
 use Rattle.chain.specs.Laws.Passing.{passed_all}
 use Rattle.chain.specs.Laws.Steps.{heard}
 use Rattle.chain.specs.declared.Chain.{Chain}
-use Rattle.chain.specs.declared.Gapped.{Gapped}
+use Rattle.chain.specs.Calls.{Gapped}
 use Rattle.histories.specs.Histories.{Event, frame, gap, is_speech, takes, next}
 use Rattle.histories.specs.Held.{ReadyAt}
 use Rattle.histories.specs.Laws.Steps.{step_of}

@@ -1,7 +1,9 @@
 -- `chain::Chain::samples` meets its contract. Assumes nothing.
+use Rattle.speech_level_estimator.proofs.Tested.{carried_on}
+use Rattle.chain.specs.Chain.{passes}
 use Rattle.chain.specs.Calls.{samples_told}
 use Rattle.chain.proofs.Chain.samples.Goals as goal
 
 pub returns : goal.returns
 unfolding samples_told
-returns c = rw (c.pick.ensures, c.refusal.ensures, c.passes-ok.ensures)
+returns c = carried_on (passes c.args.self) _ _ _ _ c.in_ok-last.ensures (λ p same. rw (p, ← same))
