@@ -14,15 +14,15 @@
 
 #![tactic(auto)]
 
+ghost use Rattle.std.specs.Prelude.{IfSome};
 ghost use Rattle.io.specs.Counts.{IsPrefixLen};
 
 use std::fs;
 use std::fs::{File, OpenOptions};
-use std::io::Seek;
+use std::io::{Result as IoResult, Seek};
 use std::os::unix::fs::{FileExt, FileTypeExt};
-use strip_carry::{End, Run, Told, Way, end_of, told_of, way_of};
+use strip_carry::{End, Run, Way, end_of, told_of, way_of};
 use strip_format::Version;
-use units::replies::DONE;
 
 // So many bytes are read at a time: what they put out has room in 65,536 bytes.
 const BLOCK: usize = 2048;
@@ -39,24 +39,16 @@ const STRIP: &str = "/proc/self/fd/0";
 // The descriptor that the number is written to.
 const REPLY_FILENO: i32 = 3;
 
-// How many bytes of a block were read, none at the strip's end, and whether the read went well.
-#[derive(Clone, Copy)]
-struct Filled {
-    n: usize,
-    well: bool,
-}
+// The number that is written there where all went well.
+const WELL: u64 = 0;
 
-// A reading: the run at its end, and whether each read went well, and each write.
+// A reading: the run at its end, and whether each read went well, and each write. What is told depends on that by the proved
+// calls told_of and end_of, which take it.
 #[derive(Clone, Copy)]
 struct Gone {
     run: Run,
     read: bool,
     written: bool,
-}
-
-// Tells a number, and a text after it.
-fn tell_number(rt: &HostRuntime, n: u64, after: &str) {
-    let _ = eprint!(rt; "{n}{after}");
 }
 
 // A place of the strip as an offset. No file is longer than 2^63 - 1 bytes, so no place is behind that.
@@ -73,29 +65,23 @@ fn strip_name(rt: &HostRuntime) -> &'static str {
     }
 }
 
-// Reads a block that begins at a place of the strip. A read that fails is told.
-fn read_block(rt: &HostRuntime, strip: &File, block: &mut [u8], place: u64) -> Filled
-    ensures { IsPrefixLen result.n block.new }
+// Reads a block that begins at a place of the strip, and answers how many bytes it has, none at the strip's end. A read that
+// fails is told.
+fn read_block(rt: &HostRuntime, strip: &File, block: &mut [u8], place: u64) -> Option<usize>
+    ensures { IfSome result (λ n. IsPrefixLen n block.new) }
 {
     match strip.read_at(block, offset(place)) {
-        Ok(n) => Filled { n, well: true },
+        Ok(n) => Some(n),
         Err(e) => {
             outside::fail(rt, strip_name(rt), e);
-            Filled { n: 0, well: false }
+            None
         }
     }
 }
 
-// Writes what a block put out, where that is asked for, and answers whether all went well. Where not, it is told.
-fn write(rt: &HostRuntime, bytes: &[u8], reply: u32, writes: bool) -> bool {
-    if reply != DONE {
-        outside::tell(rt, "carry: the bytes do not fit\n");
-        return false;
-    }
-    if !writes {
-        return true;
-    }
-    match rt.write_all(bytes) {
+// Whether what was done with standard output went well. Where not, it is told.
+fn went_well(rt: &HostRuntime, output: IoResult<()>) -> bool {
+    match output {
         Ok(()) => true,
         Err(e) => {
             outside::fail(rt, "carry: standard output", e);
@@ -104,64 +90,57 @@ fn write(rt: &HostRuntime, bytes: &[u8], reply: u32, writes: bool) -> bool {
     }
 }
 
-// Settles standard output where all went well so far, and answers whether that does too. Where not, it is told as a write that
-// fails is.
-fn settle_output(rt: &HostRuntime, well: bool) -> bool {
-    if well {
-        match outside::settle_output(rt) {
-            Ok(()) => true,
-            Err(e) => {
-                outside::fail(rt, "carry: standard output", e);
-                false
-            }
-        }
-    } else {
-        false
-    }
-}
-
 // Reads the strip from its start to its end, and writes what it is carried to, where that is asked for. A proved loop has to
-// end, so it counts its turns down, from a number that no run uses up.
+// end, so it counts its turns, up to a number that no run uses up.
 fn go_through(rt: &HostRuntime, strip: &File, from: Version, writes: bool) -> Gone {
     let mut block = [0u8; BLOCK];
     let mut out = io::large_buffer();
     let mut run = Run::new(from);
-    let mut read = true;
-    let mut written = true;
-    let mut more = true;
-    let mut turns = u64::MAX;
-    while turns > 0 && more {
-        let filled = read_block(rt, strip, &mut block, run.place);
-        let n = filled.n;
-        read = filled.well;
-        if read {
-            let taken = run.take(&block[..n], &mut out);
-            let length = taken.length;
-            written = write(rt, &out[..length], taken.reply, writes);
-            run = taken.run;
-            more = written & run.tally.more;
-        } else {
-            more = false;
+    for _ in 0..u64::MAX {
+        let Some(n) = read_block(rt, strip, &mut block, run.place) else {
+            return Gone {
+                run,
+                read: false,
+                written: true,
+            };
+        };
+        let Ok(taken) = run.take(&block[..n], &mut out) else {
+            outside::tell(rt, "carry: the bytes do not fit\n");
+            return Gone {
+                run,
+                read: true,
+                written: false,
+            };
+        };
+        run = taken.run;
+        let written = !writes || went_well(rt, rt.write_all(&out[..taken.length]));
+        if !written || !run.tally.more {
+            return Gone {
+                run,
+                read: true,
+                written,
+            };
         }
-        turns -= 1;
     }
-    Gone { run, read, written }
+    Gone {
+        run,
+        read: true,
+        written: true,
+    }
 }
 
 // Writes the strip that was read first, and tells how that ended.
 fn write_strip(rt: &HostRuntime, strip: &File, from: Version, first: Run) {
     let gone = go_through(rt, strip, from, true);
-    let second = gone.run;
-    let settled = settle_output(rt, gone.read & gone.written);
-    let end = end_of(first, second, gone.read, gone.written, settled);
-    match end {
-        End::Nothing => {}
-        End::Changed => outside::tell(
+    let settled = gone.read & gone.written && went_well(rt, outside::settle_output(rt));
+    match end_of(first, gone.run, gone.read, gone.written, settled) {
+        None => {}
+        Some(End::Changed) => outside::tell(
             rt,
             "carry: the strip changed while it was carried: what was written is not to be used\n",
         ),
-        End::Well => {
-            io::print_decimal(REPLY_FILENO, DONE as u64);
+        Some(End::Well) => {
+            io::print_decimal(REPLY_FILENO, WELL);
         }
     }
 }
@@ -170,17 +149,15 @@ fn write_strip(rt: &HostRuntime, strip: &File, from: Version, first: Run) {
 fn carry_from(rt: &HostRuntime, strip: &File, from: Version) {
     let gone = go_through(rt, strip, from, false);
     let first = gone.run;
-    let told = told_of(first, gone.read & gone.written);
-    match told {
-        Told::Nothing => {}
-        Told::Size(n) => {
-            tell_number(rt, n, " bytes\n");
+    match told_of(first, gone.read & gone.written) {
+        None => {}
+        Some(Ok(n)) => {
+            let _ = eprintln!(rt; "{n} bytes");
             write_strip(rt, strip, from, first);
         }
-        Told::Refused(reply, number) => {
-            tell_number(rt, number, " R ");
-            tell_number(rt, reply as u64, "\n");
-            io::print_decimal(REPLY_FILENO, reply as u64);
+        Some(Err(refused)) => {
+            let _ = eprintln!(rt; "{} R {}", refused.number, refused.refusal);
+            io::print_decimal(REPLY_FILENO, u64::from(refused.refusal.number()));
         }
     }
 }
@@ -193,13 +170,13 @@ fn is_named(rt: &HostRuntime) -> bool {
 }
 
 // The way that the first word says, where there is one word, or where the others name the strip.
-fn asked(rt: &HostRuntime) -> Way {
+fn asked(rt: &HostRuntime) -> Option<Way> {
     let mut word = io::buffer();
     if outside::word_count(rt) == 2 || is_named(rt) {
         let n = outside::word(rt, 1, &mut word);
         way_of(&word[..n])
     } else {
-        Way::None
+        None
     }
 }
 
@@ -217,21 +194,16 @@ fn is_kept(rt: &HostRuntime) -> bool {
 
 // A file that has places, and nothing in its stead where it has none, as a terminal has.
 fn with_places(mut file: File) -> Option<File> {
-    match file.stream_position() {
-        Ok(_) => Some(file),
-        Err(_) => None,
-    }
+    file.stream_position().ok()?;
+    Some(file)
 }
 
 // Hands an opened strip on. Where there is none, or one that cannot be read twice, that is told.
 fn told_of_open(rt: &HostRuntime, strip: Option<File>, text: &str) -> Option<File> {
-    match strip {
-        Some(file) => Some(file),
-        None => {
-            outside::tell(rt, text);
-            None
-        }
+    if strip.is_none() {
+        outside::tell(rt, text);
     }
+    strip
 }
 
 // Opens the strip that the last word names.
@@ -251,14 +223,10 @@ fn open_named(rt: &HostRuntime) -> Option<File> {
 
 // Opens standard input once more, where that can be done.
 fn open_input(rt: &HostRuntime) -> Option<File> {
-    if is_kept(rt) {
-        match fs::open(rt, STRIP) {
-            Ok(file) => with_places(file),
-            Err(_) => None,
-        }
-    } else {
-        None
+    if !is_kept(rt) {
+        return None;
     }
+    with_places(fs::open(rt, STRIP).ok()?)
 }
 
 // Opens the strip: the one that the words name, or else standard input.
@@ -278,12 +246,12 @@ fn main(rt: HostRuntime) {
     let way = asked(&rt);
     if let Some(strip) = open_strip(&rt) {
         match way {
-            Way::None => outside::tell(
+            None => outside::tell(
                 &rt,
                 "carry: it takes one word, up or back: carry up < OLD.strip > NEW.strip\n",
             ),
-            Way::Up => carry_from(&rt, &strip, Version::One),
-            Way::Back => carry_from(&rt, &strip, Version::Two),
+            Some(Way::Up) => carry_from(&rt, &strip, Version::One),
+            Some(Way::Back) => carry_from(&rt, &strip, Version::Two),
         }
     }
 }

@@ -1,3 +1,4 @@
 -- What the proofs of the functions share.
+pub mod Replies
 pub mod Lines
 pub mod Bytes

@@ -8,7 +8,6 @@ use Rattle.strip_format.specs.Whole.{read_strip, refused_number}
 use Rattle.strip_format.specs.declared.Head.{Head}
 use Rattle.strip_format.specs.declared.Version.{Version}
 use Rattle.strip_format.specs.declared.Version.TheVariants.{One, Two}
-use Rattle.strip_carry.specs.declared.Carried.{Carried}
 
 -- "A tool converts a strip to version 2, and one back to version 1"
 abbrev pub other : Version → Version
@@ -65,6 +64,13 @@ unfolding judged carried_bytes put
 carried_to v strip out = put (judged v strip).reply (carried_bytes v strip) out
 
 -- ---- what a call answers
+-- a reply's number, the record that it is about, which is 0 for the head and where nothing is refused, and how many bytes the carried strip has: 0 where it is
+-- refused
+pub record Carried : Type 0 where
+  pub reply : ℕ
+  pub number : ℕ
+  pub length : ℕ
+
 unfoldable pub carried : Version → List ℕ → List ℕ → Carried
 unfolding carried_to judged carried_bytes
 carried v strip out =

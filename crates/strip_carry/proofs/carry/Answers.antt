@@ -1,5 +1,6 @@
 -- `strip_carry::carry` meets its contract: what is tallied of a whole strip is what is told of it. Assumes nothing.
-use Rattle.std.proofs.Common.{◌≡◌, ℕ, ◌^◌, ◌<◌, ◌≤◌, false, cond, eqb, List, ◌++◌, length, drop, sym, refl, ap, ◌∙◌, append-nil, arith, ne_eqb}
+use Rattle.std.proofs.Common.{◌≡◌, ℕ, ◌^◌, ◌<◌, ◌≤◌, false, cond, eqb, List, ◌++◌, length, drop, sym, refl, ap, ◌∙◌, append-nil, arith, ne_eqb, Option, is_some}
+use Rattle.units.specs.Handed.{number_of}
 use Rattle.units.specs.Replies.{done, no_room}
 use Rattle.units.specs.Output.{Put, put}
 use Rattle.strip_format.specs.Laws.Refusals.{put_fits, put_too_short}
@@ -8,14 +9,13 @@ use Rattle.strip_format.specs.declared.Version.{Version}
 use Rattle.strip_reader.specs.Reader.{begun, fresh_in, asked}
 use Rattle.strip_reader.specs.Telling.{ran, ended}
 use Rattle.strip_reader.specs.Laws.Telling.{whole_tells}
-use Rattle.strip_carry.specs.Carry.{other, judged, carried_bytes, carried_to, carried, carried_out}
-use Rattle.strip_carry.specs.Run.{at_start, told, new, run_of}
+use Rattle.strip_carry.specs.Carry.{Carried, other, judged, carried_bytes, carried_to, carried, carried_out}
+use Rattle.strip_carry.specs.Seen.{run_seen, reply_of, record_of}
+use Rattle.strip_carry.specs.Run.{Tally, Run, at_start, told, new, run_of}
 use Rattle.strip_carry.specs.Laws.Room.{ended_empty}
 use Rattle.strip_carry.specs.Laws.Tally.{quiet, carried_number, Tallied, tallied}
-use Rattle.strip_carry.specs.declared.Carried.{Carried}
-use Rattle.strip_carry.specs.declared.Run.{Run}
-use Rattle.strip_carry.specs.declared.Taken.{Taken}
-use Rattle.strip_carry.specs.declared.Tally.{Tally}
+use Rattle.strip_carry.specs.declared.Refused.{Refused}
+use Rattle.strip_carry.proofs.Replies.{not_done}
 use Rattle.strip_carry.proofs.carry.Goals as goal
 
 -- ---- what was seen of the whole strip
@@ -57,13 +57,13 @@ module _ (v : Version) (strip out : List ℕ) where
       counted : length lines ≡ t.length
       counted = ap length (s.put well) ∙ sym (s.long well)
 
-      pub written : {x : Taken} {run : Run} {end : List ℕ} → t.length ≤ length out → x ≡ record { reply = 0; run = run; length = length lines } → end ≡ lines ++ drop (length lines) out
-          → (◌≡◌ {A = Carried} (record { reply = 0; number = 0; length = x.length }) (carried v strip out)) × (end ≡ carried_out v strip out)
+      pub written : {n : ℕ} {end : List ℕ} → t.length ≤ length out → n ≡ length lines → end ≡ lines ++ drop (length lines) out
+          → (◌≡◌ {A = Carried} (record { reply = 0; number = 0; length = n }) (carried v strip out)) × (end ≡ carried_out v strip out)
       unfolding carried_to
       written l m o =
           let fits : length (carried_bytes v strip) ≤ length out = omega (arith, s.long well) in
           let told = answered (ap (λ (i : ℕ). put i (carried_bytes v strip) out) well ∙ put_fits (carried_bytes v strip) out fits) (carried_number v strip well) in
-          let long = ap (λ (y : Taken). y.length) m ∙ ap length (s.put well) in
+          let long = m ∙ ap length (s.put well) in
           (ap {B = Carried} (λ (i : ℕ). record { reply = 0; number = 0; length = i }) long ∙ told.0, o ∙ ap (λ (xs : List ℕ). xs ++ drop (length xs) out) (s.put well) ∙ told.1)
 
       pub without_room : length out < t.length → (◌≡◌ {A = Carried} (record { reply = no_room; number = 0; length = 0 }) (carried v strip out)) × (out ≡ carried_out v strip out)
@@ -83,31 +83,36 @@ module _ (v : Version) (strip out : List ℕ) where
 pub take_bytes-taken-requires : goal.take_bytes-taken-requires
 take_bytes-taken-requires c =
     let a = c.args in
-    let known = seen a.from a.strip.now c.new-first.result c.judge_bytes.result c.finish-last.result (omega (arith, c.well_formed.1.0.1)) c.new-first.ensures
+    let known = seen a.from a.strip.now (run_seen c.new-first.result) (run_seen c.judge_bytes.result) (run_seen c.finish-last.result) (omega (arith, c.well_formed.1.0.1)) c.new-first.ensures
     c.judge_bytes.ensures c.finish-last.ensures in
-    omega (arith, counted a.from a.strip.now a.out.now known c.if-refused-eq-DONE.true, c.if-length-space.true)
+    omega (arith, counted a.from a.strip.now a.out.now known (ap reply_of c.in_default.is), c.if-space-seen.false)
 
-pub returns-then-length-space : goal.returns-then-length-space
-returns-then-length-space c =
+pub returns : goal.returns
+returns c =
     let a = c.args in
-    let known = seen a.from a.strip.now c.new-first.result c.judge_bytes.result c.finish-last.result (omega (arith, c.well_formed.1.0.1)) c.new-first.ensures
+    let known = seen a.from a.strip.now (run_seen c.new-first.result) (run_seen c.judge_bytes.result) (run_seen c.finish-last.result) (omega (arith, c.well_formed.1.0.1)) c.new-first.ensures
     c.judge_bytes.ensures c.finish-last.ensures in
     let bytes = c.take_bytes-taken in
-    let both = written a.from a.strip.now a.out.now known c.if-refused-eq-DONE.true c.if-length-space.true bytes.ensures.value bytes.ensures.out_after in
+    let both = written a.from a.strip.now a.out.now known (ap reply_of c.in_default.is) c.if-space-seen.false bytes.ensures.put_out bytes.ensures.out_after in
     record { value = both.0; out_after = both.1 }
 
-pub returns-else-length-space : goal.returns-else-length-space
-returns-else-length-space c =
+pub returns-then-space-seen : goal.returns-then-space-seen
+unfolding number_of
+returns-then-space-seen c =
     let a = c.args in
-    let known = seen a.from a.strip.now c.new-first.result c.judge_bytes.result c.finish-last.result (omega (arith, c.well_formed.1.0.1)) c.new-first.ensures
+    let known = seen a.from a.strip.now (run_seen c.new-first.result) (run_seen c.judge_bytes.result) (run_seen c.finish-last.result) (omega (arith, c.well_formed.1.0.1)) c.new-first.ensures
     c.judge_bytes.ensures c.finish-last.ensures in
-    let both = without_room a.from a.strip.now a.out.now known c.if-refused-eq-DONE.true c.if-length-space.false in
+    let both = without_room a.from a.strip.now a.out.now known (ap reply_of c.in_default.is) c.if-space-seen.true in
     record { value = both.0; out_after = both.1 }
 
-pub returns-else-refused-eq-DONE : goal.returns-else-refused-eq-DONE
-returns-else-refused-eq-DONE c =
+-- what is refused, and where
+refusal_is : {x y : Option Refused} {answer : Carried} → x ≡ y → record { reply = reply_of x; number = record_of x; length = 0 } ≡ answer → record { reply = reply_of y; number = record_of y; length = 0 } ≡ answer
+refusal_is e h = rw (← e) h
+
+pub returns-in-Some : goal.returns-in-Some
+returns-in-Some c =
     let a = c.args in
-    let known = seen a.from a.strip.now c.new-first.result c.judge_bytes.result c.finish-last.result (omega (arith, c.well_formed.1.0.1)) c.new-first.ensures
+    let known = seen a.from a.strip.now (run_seen c.new-first.result) (run_seen c.judge_bytes.result) (run_seen c.finish-last.result) (omega (arith, c.well_formed.1.0.1)) c.new-first.ensures
     c.judge_bytes.ensures c.finish-last.ensures in
-    let both = refused a.from a.strip.now a.out.now known c.if-refused-eq-DONE.false in
-    record { value = both.0; out_after = both.1 }
+    let both = refused a.from a.strip.now a.out.now known (not_done c.finish-last.result.tally.refused (ap is_some c.in-Some.is)) in
+    record { value = refusal_is c.in-Some.is both.0; out_after = both.1 }

@@ -4,25 +4,23 @@ use Rattle.strip_reader.specs.Reader.{Handed, step_of, handed, fed}
 use Rattle.strip_reader.specs.Telling.{Ran, ran}
 use Rattle.strip_reader.specs.declared.Reader.{Reader}
 use Rattle.strip_reader.specs.declared.Step.{Step}
-use Rattle.strip_carry.specs.Run.{told, longest, line_of, line_out, run_of}
+use Rattle.strip_carry.specs.Run.{Tally, Line, Run, told, longest, line_of, line_out, run_of}
+use Rattle.strip_carry.specs.Seen.{tally_seen, line_seen}
 use Rattle.strip_carry.specs.Laws.Room.{told_most}
-use Rattle.strip_carry.specs.declared.Line.{Line}
-use Rattle.strip_carry.specs.declared.Run.{Run}
-use Rattle.strip_carry.specs.declared.Tally.{Tally}
 use Rattle.strip_carry.proofs.Bytes.{next_byte}
 use Rattle.strip_carry.proofs.judge_bytes.Goals as goal
 use Rattle.strip_carry.proofs.judge_bytes.Invariants.{Going}
 
-pub loop-i-init : goal.loop-i-init
-loop-i-init c = record { reader = refl; desk = refl; room = refl; within = omega arith }
+pub loop-byte-init : goal.loop-byte-init
+loop-byte-init c = record { reader = refl; desk = refl; room = refl }
 
 pub slice_bounds-tell-end : goal.slice_bounds-tell-end
-slice_bounds-tell-end c = sym c.loop-i.invariant.room
+slice_bounds-tell-end c = sym c.loop-byte.invariant.room
 
 pub tell-line-requires : goal.tell-line-requires
 tell-line-requires c =
-    let l = c.loop-i in
-    omega (arith, told_most l.tally (handed c.take-step.result.got), l.invariant.room)
+    let l = c.loop-byte in
+    omega (arith, told_most (tally_seen l.tally) (handed c.take-step.result.got), l.invariant.room)
 
 -- a line leaves the buffer as long as it was
 as_long : (t : Tally) (h : Handed) (scratch scratch' : List ℕ) → length scratch ≡ longest → scratch' ≡ line_out (told t h) scratch → length scratch' ≡ length scratch
@@ -37,18 +35,17 @@ further block r₀ t₀ r t scratch scratch' i s line g l h e m =
       reader = ap (λ (x : Ran Tally). x.reader) (sym turn) ∙ g.reader;
       desk = ap (λ (x : Ran Tally). x.desk) (sym turn) ∙ g.desk;
       room = m ∙ g.room;
-      within = omega arith;
     }
 
-pub loop-i-preserved : goal.loop-i-preserved
-loop-i-preserved c =
-    let l = c.loop-i in
+pub loop-byte-preserved : goal.loop-byte-preserved
+loop-byte-preserved c =
+    let l = c.loop-byte in
     let a = c.args in
     let tell = c.tell-line in
     let step = c.take-step in
-    let inside = c.loop-i-test.true in
-    further a.block.now a.run.reader a.run.tally l.reader l.tally l.scratch _ l.i step.result tell.result l.invariant inside step.ensures tell.ensures.value
-    (as_long l.tally (handed step.result.got) l.scratch _ l.invariant.room tell.ensures.out_after)
+    let inside = c.loop-byte-test.true in
+    further a.block.now a.run.reader (tally_seen a.run.tally) l.reader (tally_seen l.tally) l.scratch _ l.byte-index step.result (line_seen tell.result) l.invariant inside step.ensures tell.ensures.value
+    (as_long (tally_seen l.tally) (handed step.result.got) l.scratch _ l.invariant.room tell.ensures.out_after)
 
 -- all bytes
 whole-block : (block : List ℕ) (r₀ : Reader) (t₀ : Tally) (r : Reader) (t : Tally) (scratch : List ℕ) (i place : ℕ) → Going block r₀ t₀ r t scratch i → length block ≤ i
@@ -62,6 +59,6 @@ whole-block block r₀ t₀ r t scratch i place g l =
 
 pub returns : goal.returns
 returns c =
-    let l = c.loop-i in
+    let l = c.loop-byte in
     let a = c.args in
-    whole-block a.block.now a.run.reader a.run.tally l.reader l.tally l.scratch l.i a.run.place l.invariant c.loop-i-test.false
+    whole-block a.block.now a.run.reader (tally_seen a.run.tally) l.reader (tally_seen l.tally) l.scratch l.byte-index a.run.place l.invariant c.loop-byte-test.false

@@ -1,9 +1,9 @@
 -- `strip_carry::judge_bytes` meets its contract. The invariant: what the bytes from here on give is what the block gives. Assumes nothing.
-use Rattle.std.proofs.Common.{◌≡◌, ℕ, ◌-◌, ◌≤◌, List, length, drop}
+use Rattle.std.proofs.Common.{◌≡◌, ℕ, List, length, drop}
 use Rattle.strip_reader.specs.Telling.{ran}
 use Rattle.strip_reader.specs.declared.Reader.{Reader}
-use Rattle.strip_carry.specs.Run.{told, longest}
-use Rattle.strip_carry.specs.declared.Tally.{Tally}
+use Rattle.strip_carry.specs.Run.{Tally, told, longest}
+use Rattle.strip_carry.specs.Seen.{tally_seen}
 use Rattle.strip_carry.proofs.judge_bytes.Given as goal
 
 -- how far a block is taken
@@ -11,10 +11,6 @@ pub record Going (block : List ℕ) (r₀ : Reader) (t₀ : Tally) (r : Reader) 
   pub reader : (ran told r t (drop i block)).reader ≡ (ran told r₀ t₀ block).reader
   pub desk : (ran told r t (drop i block)).desk ≡ (ran told r₀ t₀ block).desk
   pub room : length scratch ≡ longest
-  pub within : i ≤ length block
 
-abbrev pub invariant-loop-i : goal.invariant-loop-i
-invariant-loop-i l = Going l.block l.initial.reader l.initial.tally l.reader l.tally l.scratch l.i
-
-abbrev pub decreases-loop-i : goal.decreases-loop-i
-decreases-loop-i l = length l.block - l.i
+abbrev pub invariant-loop-byte : goal.invariant-loop-byte
+invariant-loop-byte l = Going l.block l.initial.reader (tally_seen l.initial.tally) l.reader (tally_seen l.tally) l.scratch l.byte-index

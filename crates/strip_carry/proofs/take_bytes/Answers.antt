@@ -6,16 +6,14 @@ use Rattle.strip_reader.specs.Reader.{Handed, step_of, handed, fed}
 use Rattle.strip_reader.specs.Telling.{Ran, ran}
 use Rattle.strip_reader.specs.declared.Reader.{Reader}
 use Rattle.strip_reader.specs.declared.Step.{Step}
-use Rattle.strip_carry.specs.Run.{told, line_of, line_out, run_of}
-use Rattle.strip_carry.specs.declared.Line.{Line}
-use Rattle.strip_carry.specs.declared.Taken.{Taken}
-use Rattle.strip_carry.specs.declared.Tally.{Tally}
+use Rattle.strip_carry.specs.Run.{Tally, Line, Run, told, line_of, line_out, run_of}
+use Rattle.strip_carry.specs.Seen.{tally_seen, line_seen}
 use Rattle.strip_carry.proofs.Bytes.{next_byte}
 use Rattle.strip_carry.proofs.take_bytes.Goals as goal
 use Rattle.strip_carry.proofs.take_bytes.Invariants.{Going}
 
-pub loop-i-init : goal.loop-i-init
-loop-i-init c = record { lines = refl; reader = refl; desk = refl; rest = refl; same = refl; most = omega arith; within = omega arith }
+pub loop-byte-init : goal.loop-byte-init
+loop-byte-init c = record { lines = refl; reader = refl; desk = refl; rest = refl; same = refl; most = omega arith }
 
 -- there is room for what one more byte puts out
 room : (block out₀ : List ℕ) (r₀ : Reader) (t₀ : Tally) (out : List ℕ) (r : Reader) (t : Tally) (n i : ℕ) (s : Step) → Going block out₀ r₀ t₀ out r t n i → i < length block
@@ -49,18 +47,18 @@ after_line out n line ys h l e =
     ∙ sym (append_assoc (take n out) line (drop (n + length line) out))
 
 pub slice_bounds-tell-count : goal.slice_bounds-tell-count
-slice_bounds-tell-count c = omega (arith, c.loop-i.invariant.most)
+slice_bounds-tell-count c = omega (arith, c.loop-byte.invariant.most)
 
 pub slice_bounds-tell-start : goal.slice_bounds-tell-start
-slice_bounds-tell-start c = omega (arith, c.loop-i.invariant.most)
+slice_bounds-tell-start c = omega (arith, c.loop-byte.invariant.most)
 
 pub tell-line-requires : goal.tell-line-requires
 tell-line-requires c =
-    let l = c.loop-i in
+    let l = c.loop-byte in
     let a = c.args in
     let step = c.take-step in
-    let space = room a.block.now a.out.now a.run.reader a.run.tally l.out l.reader l.tally l.length l.i step.result l.invariant
-    c.loop-i-test.true c.requires step.ensures in
+    let space = room a.block.now a.out.now a.run.reader (tally_seen a.run.tally) l.out l.reader (tally_seen l.tally) l.length l.byte-index step.result l.invariant
+    c.loop-byte-test.true c.requires step.ensures in
     rw (part-whole l.out l.length l.invariant.most, length-drop) (omega arith)
 
 -- how long a line is
@@ -69,18 +67,14 @@ long t h line e = ap (λ (x : Line). x.length) e
 
 pub overflow_add-length : goal.overflow_add-length
 overflow_add-length c =
-    let l = c.loop-i in
+    let l = c.loop-byte in
     let a = c.args in
     let tell = c.tell-line in
     let step = c.take-step in
-    let space = room a.block.now a.out.now a.run.reader a.run.tally l.out l.reader l.tally l.length l.i step.result l.invariant
-    c.loop-i-test.true c.requires step.ensures in
-    let few = long l.tally (handed step.result.got) tell.result tell.ensures.value in
+    let space = room a.block.now a.out.now a.run.reader (tally_seen a.run.tally) l.out l.reader (tally_seen l.tally) l.length l.byte-index step.result l.invariant
+    c.loop-byte-test.true c.requires step.ensures in
+    let few = long (tally_seen l.tally) (handed step.result.got) (line_seen tell.result) tell.ensures.value in
     omega (arith, l.invariant.same, c.well_formed.1.1.0.0)
-
-pub overflow_add-i : goal.overflow_add-i
-overflow_add-i c =
-    omega (arith, c.loop-i-test.true, c.well_formed.1.0.0)
 
 -- one byte further
 further : (block out₀ : List ℕ) (r₀ : Reader) (t₀ : Tally) (out : List ℕ) (r : Reader) (t : Tally) (n i : ℕ) (s : Step) (line : Line) (ys : List ℕ) → Going block out₀ r₀ t₀ out r t n i
@@ -113,26 +107,25 @@ further block out₀ r₀ t₀ out r t n i s line ys g l pre h e f =
           ∙ ap (λ (m : ℕ). drop (n + m) out₀) (sym size);
       same = as_long ∙ g.same;
       most = omega arith;
-      within = omega arith;
     }
 
-pub loop-i-preserved : goal.loop-i-preserved
-loop-i-preserved c =
-    let l = c.loop-i in
+pub loop-byte-preserved : goal.loop-byte-preserved
+loop-byte-preserved c =
+    let l = c.loop-byte in
     let a = c.args in
     let tell = c.tell-line in
     let step = c.take-step in
-    let inside = c.loop-i-test.true in
-    further a.block.now a.out.now a.run.reader a.run.tally l.out l.reader l.tally l.length l.i step.result tell.result _ l.invariant inside c.requires step.ensures
+    let inside = c.loop-byte-test.true in
+    further a.block.now a.out.now a.run.reader (tally_seen a.run.tally) l.out l.reader (tally_seen l.tally) l.length l.byte-index step.result (line_seen tell.result) _ l.invariant inside c.requires step.ensures
     tell.ensures.value tell.ensures.out_after
 
 pub shape_of-out : goal.shape_of-out
-shape_of-out c = c.loop-i.invariant.same
+shape_of-out c = c.loop-byte.invariant.same
 
 -- all bytes
 whole-block : (block out₀ : List ℕ) (r₀ : Reader) (t₀ : Tally) (out : List ℕ) (r : Reader) (t : Tally) (n i place : ℕ) → Going block out₀ r₀ t₀ out r t n i → length block ≤ i
-    → (◌≡◌ {A = Taken} (record { reply = 0; run = record { reader = r; tally = t; place = place }; length = n })
-    (record { reply = 0; run = run_of place (ran told r₀ t₀ block); length = length (ran told r₀ t₀ block).lines }))
+    → (◌≡◌ {A = Run} (record { reader = r; tally = t; place = place }) (run_of place (ran told r₀ t₀ block)))
+    × (n ≡ length (ran told r₀ t₀ block).lines)
     × (out ≡ (ran told r₀ t₀ block).lines ++ drop (length (ran told r₀ t₀ block).lines) out₀)
 unfolding ran
 whole-block block out₀ r₀ t₀ out r t n i place g l =
@@ -141,13 +134,14 @@ whole-block block out₀ r₀ t₀ out r t n i place g l =
     let reader : r ≡ (ran told r₀ t₀ block).reader = rw none at g.reader in
     let desk : t ≡ (ran told r₀ t₀ block).desk = rw none at g.desk in
     let size : n ≡ length (ran told r₀ t₀ block).lines = sym (length-take-le n out g.most) ∙ ap length put in (
-      λ j. record { reply = 0; run = record { reader = reader j; tally = desk j; place = place }; length = size j },
+      λ j. record { reader = reader j; tally = desk j; place = place },
+      size,
       sym (take-append-drop n out) ∙ ap (λ (xs : List ℕ). xs ++ drop n out) put ∙ ap (λ (xs : List ℕ). (ran told r₀ t₀ block).lines ++ xs) (g.rest ∙ ap (λ (m : ℕ). drop m out₀) size),
     )
 
 pub returns : goal.returns
 returns c =
-    let l = c.loop-i in
+    let l = c.loop-byte in
     let a = c.args in
-    let both = whole-block a.block.now a.out.now a.run.reader a.run.tally l.out l.reader l.tally l.length l.i a.run.place l.invariant c.loop-i-test.false in
-    record { value = both.0; out_after = both.1 }
+    let both = whole-block a.block.now a.out.now a.run.reader (tally_seen a.run.tally) l.out l.reader (tally_seen l.tally) l.length l.byte-index a.run.place l.invariant c.loop-byte-test.false in
+    record { run_after = both.0; put_out = both.1; out_after = both.2 }

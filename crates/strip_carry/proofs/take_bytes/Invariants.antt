@@ -1,10 +1,10 @@
 -- `strip_carry::take_bytes` meets its contract. The invariant: what was put, and what the bytes from here on put out, is what the block puts out, and it
 -- has room. Assumes nothing.
-use Rattle.std.proofs.Common.{◌≡◌, ℕ, ◌-◌, ◌≤◌, List, ◌++◌, length, take, drop}
+use Rattle.std.proofs.Common.{◌≡◌, ℕ, ◌≤◌, List, ◌++◌, length, take, drop}
 use Rattle.strip_reader.specs.Telling.{ran}
 use Rattle.strip_reader.specs.declared.Reader.{Reader}
-use Rattle.strip_carry.specs.Run.{told}
-use Rattle.strip_carry.specs.declared.Tally.{Tally}
+use Rattle.strip_carry.specs.Run.{Tally, told}
+use Rattle.strip_carry.specs.Seen.{tally_seen}
 use Rattle.strip_carry.proofs.take_bytes.Given as goal
 
 -- how far a block is taken
@@ -15,10 +15,6 @@ pub record Going (block out₀ : List ℕ) (r₀ : Reader) (t₀ : Tally) (out :
   pub rest : drop n out ≡ drop n out₀
   pub same : length out ≡ length out₀
   pub most : n ≤ length out
-  pub within : i ≤ length block
 
-abbrev pub invariant-loop-i : goal.invariant-loop-i
-invariant-loop-i l = Going l.block l.initial.out l.initial.reader l.initial.tally l.out l.reader l.tally l.length l.i
-
-abbrev pub decreases-loop-i : goal.decreases-loop-i
-decreases-loop-i l = length l.block - l.i
+abbrev pub invariant-loop-byte : goal.invariant-loop-byte
+invariant-loop-byte l = Going l.block l.initial.out l.initial.reader (tally_seen l.initial.tally) l.out l.reader (tally_seen l.tally) l.length l.byte-index

@@ -12,7 +12,7 @@ use Rattle.units.specs.declared.figures.Figures.{Figures}
 use Rattle.frames.specs.Shape.{is_samples}
 use Rattle.strip_format.specs.Fields.{size, fields_at}
 use Rattle.strip_format.specs.Format.{in_version, largest_said, has_gaps, head_fields, head_of, Entry, figures, gap, entry_size, entry_bytes}
-use Rattle.strip_format.specs.Calls.{is_threshold, head_refusal, read_head, record_refusal, refused_record, ended, found}
+use Rattle.strip_format.specs.Calls.{HeadRead, is_threshold, head_refusal, read_head, record_refusal, refused_record, ended, found}
 use Rattle.strip_format.specs.Whole.{joined, behind, entries_in, entries_of, read_strip}
 use Rattle.strip_format.specs.Laws.Heads.{Held, read_not_refused, read_is, read_version, held_head}
 use Rattle.strip_format.specs.Laws.Records as Records
@@ -20,7 +20,6 @@ use Rattle.strip_format.specs.Laws.Gaps.{gap_had, written_gap_reads}
 use Rattle.strip_format.specs.Laws.Versions.{figures_stay}
 use Rattle.strip_format.specs.Laws.Whole.{Accepted, read_by, written_entry_reads, read_accepted, Seen, here, over, refused, seen}
 use Rattle.strip_format.specs.declared.Head.{Head}
-use Rattle.strip_format.specs.declared.HeadRead.{HeadRead}
 use Rattle.strip_format.specs.declared.Version.{Version}
 use Rattle.strip_format.specs.declared.Version.TheVariants.{One, Two}
 use Rattle.strip_carry.specs.Carry.{other, says_head, says_entry, Verdict, entries_said, strip_said, judged}

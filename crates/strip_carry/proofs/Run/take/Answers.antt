@@ -1,18 +1,18 @@
 -- `strip_carry::Run::take` meets its contract. Assumes nothing.
-use Rattle.std.proofs.Common.{◌≡◌, ℕ, ◌/◌, ◌<◌, ◌≤◌, List, ◌++◌, length, drop, refl, ap, ◌∙◌, le-ltb, lt-ltb}
+use Rattle.std.proofs.Common.{◌≡◌, ℕ, ◌/◌, ◌<◌, ◌≤◌, List, ◌++◌, length, drop, refl, sym, ap, ◌∙◌, le-ltb, lt-ltb, eqb-true}
+use borrow.Author.Tests.{eqb-false}
+use Rattle.units.specs.Handed.{number_of}
 use Rattle.strip_reader.specs.Telling.{Ran, ran, taken}
-use Rattle.strip_carry.specs.Run.{after, told, longest, run_of, taken_run, taken_lines, taken_of, out_of}
+use Rattle.strip_carry.specs.Run.{Tally, Run, Taken, after, told, longest, run_of, taken_run, taken_lines, taken_of, out_of}
+use Rattle.strip_carry.specs.Seen.{tally_seen, run_seen}
 use Rattle.strip_carry.specs.Laws.Room.{ended_empty, ran_fits}
-use Rattle.strip_carry.specs.declared.Run.{Run}
-use Rattle.strip_carry.specs.declared.Taken.{Taken}
-use Rattle.strip_carry.specs.declared.Tally.{Tally}
 use Rattle.strip_carry.proofs.Bytes.{at_end_lem, in_bytes, taken_run_lem}
 use Rattle.strip_carry.proofs.Run.take.Goals as goal
 
 pub take_bytes-taken-requires : goal.take_bytes-taken-requires
 take_bytes-taken-requires c =
     let a = c.args in
-    ran_fits a.self.reader a.self.tally a.block.now (length a.out.now) c.if-block-space.true
+    ran_fits a.self.reader (tally_seen a.self.tally) a.block.now (length a.out.now) c.if-room-block.false
 
 -- what a block puts out
 lines_are : (r : Run) (block : List ℕ) {x : Ran Tally} → taken told r.reader r.tally block ≡ x → taken_lines r block ≡ x.lines
@@ -26,32 +26,34 @@ answer-is : (r : Run) (block out : List ℕ) {lines : List ℕ} {run : Run} {n :
 unfolding taken_of out_of
 answer-is r block out l e f m o = (rw (lt-ltb (length block) (length out / longest) l, e, f, m), o ∙ rw (lt-ltb (length block) (length out / longest) l, e))
 
-pub returns-then-block-eq0 : goal.returns-then-block-eq0
-returns-then-block-eq0 c =
+pub returns-then-is_empty : goal.returns-then-is_empty
+returns-then-is_empty c =
     let a = c.args in
-    let r = a.self in
+    let r = run_seen a.self in
     let block = a.block.now in
-    let e = at_end_lem r block c.if-block-eq0.true in
-    let both = answer-is r block a.out.now c.if-block-space.true (lines_are r block e ∙ ended_empty r.reader r.tally)
-    (taken_run_lem r block e c.finish.ensures c.wrapping_add_u64-place.ensures.value c.placed-run.ensures) refl refl in
+    let none = eqb-true (length block) 0 (sym c.is_empty.ensures ∙ c.if-is_empty.true) in
+    let e = at_end_lem r block none in
+    let both = answer-is r block a.out.now c.if-room-block.false (lines_are r block e ∙ ended_empty r.reader r.tally)
+    (taken_run_lem r block e c.finish-run.ensures refl refl) refl refl in
     record { value = both.0; out_after = both.1 }
 
 -- where its bytes were taken
-bytes-taken : (r : Run) (block out : List ℕ) {bytes : Taken} {run : Run} {place : ℕ} {end : List ℕ} → length block < length out / longest → (length block ≡ 0 → ⊥)
-    → bytes ≡ record { reply = 0; run = run_of r.place (ran told r.reader r.tally block); length = length (ran told r.reader r.tally block).lines }
-    → place ≡ after r.place (length block) → run ≡ record { reader = bytes.run.reader; tally = bytes.run.tally; place = place }
+bytes-taken : (r : Run) (block out : List ℕ) {last run : Run} {n place : ℕ} {end : List ℕ} → length block < length out / longest → (length block ≡ 0 → ⊥)
+    → last ≡ run_of r.place (ran told r.reader r.tally block) → n ≡ length (ran told r.reader r.tally block).lines
+    → place ≡ after r.place (length block) → run ≡ record { reader = last.reader; tally = last.tally; place = place }
     → end ≡ (ran told r.reader r.tally block).lines ++ drop (length (ran told r.reader r.tally block).lines) out
-    → (◌≡◌ {A = Taken} (record { reply = 0; run = run; length = bytes.length }) (taken_of r block (length out))) × (end ≡ out_of r block out)
-bytes-taken r block out l n b w p o =
+    → (◌≡◌ {A = Taken} (record { reply = 0; run = run; length = n }) (taken_of r block (length out))) × (end ≡ out_of r block out)
+bytes-taken r block out l n b m w p o =
     let e = in_bytes r block n in
-    answer-is r block out l (lines_are r block e) (taken_run_lem r block e (ap (λ (x : Taken). x.run) b) w p) (ap (λ (x : Taken). x.length) b) o
+    answer-is r block out l (lines_are r block e) (taken_run_lem r block e b w p) m o
 
-pub returns-else-block-eq0 : goal.returns-else-block-eq0
-returns-else-block-eq0 c =
+pub returns : goal.returns
+returns c =
     let a = c.args in
+    let block = a.block.now in
     let bytes = c.take_bytes-taken in
-    let both = bytes-taken a.self a.block.now a.out.now c.if-block-space.true c.if-block-eq0.false
-    bytes.ensures.value c.wrapping_add_u64-place.ensures.value c.placed-run-else-block-eq0.ensures bytes.ensures.out_after in
+    let some = eqb-false (length block) 0 (sym c.is_empty.ensures ∙ c.if-is_empty.false) in
+    let both = bytes-taken (run_seen a.self) block a.out.now c.if-room-block.false some bytes.ensures.run_after bytes.ensures.put_out refl refl bytes.ensures.out_after in
     record { value = both.0; out_after = both.1 }
 
 -- a buffer without room
@@ -60,8 +62,9 @@ no_room : (r : Run) (block out : List ℕ) → length out / longest ≤ length b
 unfolding taken_of out_of
 no_room r block out l = (rw (le-ltb (length block) (length out / longest) l), rw (le-ltb (length block) (length out / longest) l))
 
-pub returns-else-block-space : goal.returns-else-block-space
-returns-else-block-space c =
+pub returns-then-room-block : goal.returns-then-room-block
+unfolding number_of
+returns-then-room-block c =
     let a = c.args in
-    let both = no_room a.self a.block.now a.out.now c.if-block-space.false in
+    let both = no_room (run_seen a.self) a.block.now a.out.now c.if-room-block.true in
     record { value = both.0; out_after = both.1 }
