@@ -54,10 +54,8 @@ fn are_all_within(bound: f32, frame: &[f32]) -> bool
     ensures { result ≡ all_within bound frame.now }
 {
     let mut ok = true;
-    let mut i = 0;
-    while i < frame.len() {
-        ok = ok & is_within(bound, frame[i]);
-        i += 1;
+    for x in frame {
+        ok = ok & is_within(bound, *x);
     }
     ok
 }

@@ -8,24 +8,22 @@ use Rattle.frames.specs.Samples.{all_within}
 use Rattle.lists.specs.Loops.{scan, scan_done}
 use Rattle.frames.proofs.are_all_within.Goals as goal
 
-pub loop-i-preserved : goal.loop-i-preserved
+pub loop-x-preserved : goal.loop-x-preserved
 unfolding all_within
-loop-i-preserved c =
+loop-x-preserved c =
     let bound = c.args.bound in
     let frame = c.args.frame.now in
-    let loop = c.loop-i in
+    let loop = c.loop-x in
     let ok = loop.ok in
-    let r = c.is_within-ok.result in (
-      omega arith,
-      scan (λ (ys : List Float). ok && all_within bound ys) (λ (ys : List Float). ok && r && all_within bound ys) frame loop.i nan (omega arith)
-          (rw c.is_within-ok.ensures (sym (and_assoc ok _ _)))
-          ∙ loop.invariant.1,
-    )
+    let r = c.is_within-ok.result in
+    scan (λ (ys : List Float). ok && all_within bound ys) (λ (ys : List Float). ok && r && all_within bound ys) frame loop.x-index nan (omega arith)
+    (rw c.is_within-ok.ensures (sym (and_assoc ok _ _)))
+    ∙ loop.invariant
 
 pub returns : goal.returns
 unfolding all_within
 returns c =
     let bound = c.args.bound in
     let frame = c.args.frame.now in
-    let loop = c.loop-i in
-    sym (and-true loop.ok) ∙ sym (scan_done (λ (ys : List Float). loop.ok && all_within bound ys) frame loop.i (omega arith)) ∙ loop.invariant.1
+    let loop = c.loop-x in
+    sym (and-true loop.ok) ∙ sym (scan_done (λ (ys : List Float). loop.ok && all_within bound ys) frame loop.x-index (omega arith)) ∙ loop.invariant
