@@ -4,6 +4,7 @@
 #![tactic(auto)]
 
 ghost use Rattle.std.specs.Prelude.{◌≡◌, ◌*◌, ◌≤◌, length};
+ghost use Rattle.std.specs.List.{AllZip};
 ghost use Rattle.frames.specs.Parts.{each_part};
 ghost use Rattle.gain_applier.specs.Sound.{close_to_one, scaled, ramped, clipped, finished, gained};
 ghost use Rattle.gain_applier.specs.Gains.{gains_from, gain_after, multiplied};
@@ -22,7 +23,8 @@ const LOWEST: f32 = -32768.0;
 
 const HIGHEST: f32 = 32767.0;
 
-// So many samples are done in one go, without a branch between them: a millisecond at 48 kHz.
+// So many samples are done in one go, without a branch between them: a millisecond at 48 kHz. Plain loops over a whole
+// part were tried, and take a quarter to a half more instructions; of `chunks_mut` a proof knows nothing of what the part ends as.
 const BLOCK: usize = 48;
 
 // Whether samples are clipped, the gain factor that the last frame ended with, the one to end the next
@@ -43,28 +45,35 @@ fn is_close_to_one(gain: f32) -> bool
     (LEAST_ONE <= gain) & (gain <= MOST_ONE)
 }
 
-// Multiplies each sample of a part by the gain.
-fn scale_some(part: &mut [f32], gain: f32)
-    ensures { part.new ≡ scaled gain part.old }
+// Changes each sample of a part.
+fn change_some<F: Fn(f32) -> f32>(part: &mut [f32], f: &F)
+    requires { F.IsAlwaysCallable f.now }
+    ensures { AllZip (λ x y. F.post f.now x y) part.old part.new }
 {
-    let mut i = 0;
-    while i < part.len() {
-        part[i] = part[i] * gain;
-        i += 1;
+    for x in part.iter_mut() {
+        *x = f(*x);
     }
 }
 
-// Multiplies each sample of a part by the gain: block after block, and then what is left.
-fn scale(part: &mut [f32], gain: f32)
-    ensures { part.new ≡ scaled gain part.old }
+// Changes each sample of a part: block after block, and then what is left.
+fn change<F: Fn(f32) -> f32>(part: &mut [f32], f: F)
+    requires { F.IsAlwaysCallable f }
+    ensures { AllZip (λ x y. F.post f x y) part.old part.new }
 {
     let mut at = 0;
     while BLOCK <= part.len() - at {
         let to = at + BLOCK;
-        scale_some(&mut part[at..to], gain);
+        change_some(&mut part[at..to], &f);
         at = to;
     }
-    scale_some(&mut part[at..], gain);
+    change_some(&mut part[at..], &f);
+}
+
+// Multiplies each sample of a part by the gain.
+fn scale(part: &mut [f32], gain: f32)
+    ensures { part.new ≡ scaled gain part.old }
+{
+    change(part, |x| x * gain);
 }
 
 // Fills with gains, each one step after the one before, and answers the next.
@@ -73,11 +82,9 @@ fn fill_some(gains: &mut [f32], from: f32, step: f32) -> f32
     ensures gains_after { gains.new ≡ gains_from (length gains.old) from step }
 {
     let mut gain = from;
-    let mut i = 0;
-    while i < gains.len() {
-        gains[i] = gain;
+    for x in gains.iter_mut() {
+        *x = gain;
         gain = gain + step;
-        i += 1;
     }
     gain
 }
@@ -101,10 +108,8 @@ fn multiply_some(part: &mut [f32], gains: &[f32])
     requires { length part.old ≤ length gains.now }
     ensures { part.new ≡ multiplied gains.now part.old }
 {
-    let mut i = 0;
-    while i < part.len() {
-        part[i] = part[i] * gains[i];
-        i += 1;
+    for (i, x) in part.iter_mut().enumerate() {
+        *x = *x * gains[i];
     }
 }
 
@@ -123,27 +128,10 @@ fn multiply(part: &mut [f32], gains: &[f32])
 }
 
 // Brings each sample of a part between the ends of 16 bits.
-fn clip_some(part: &mut [f32])
+fn clip_samples(part: &mut [f32])
     ensures { part.new ≡ clipped part.old }
 {
-    let mut i = 0;
-    while i < part.len() {
-        part[i] = floats::clamp(part[i], LOWEST, HIGHEST);
-        i += 1;
-    }
-}
-
-// Brings each sample of a part between the ends of 16 bits: block after block, and then what is left.
-fn clip_part(part: &mut [f32])
-    ensures { part.new ≡ clipped part.old }
-{
-    let mut at = 0;
-    while BLOCK <= part.len() - at {
-        let to = at + BLOCK;
-        clip_some(&mut part[at..to]);
-        at = to;
-    }
-    clip_some(&mut part[at..]);
+    change(part, |x| floats::clamp(x, LOWEST, HIGHEST));
 }
 
 // Clips a frame if that is set.
@@ -151,64 +139,19 @@ fn finish(frame: &mut [f32], clip: bool)
     ensures { frame.new ≡ finished clip frame.old }
 {
     if clip {
-        clip_part(frame);
+        clip_samples(frame);
     }
 }
 
-// Lends each channel's part to `scale`.
-fn scale_channels(frame: &mut [f32], channels: usize, samples: usize, gain: f32)
-    requires { length frame.old ≡ channels * samples }
-    ensures { frame.new ≡ each_part (scaled gain) channels samples frame.old }
-{
-    let mut start = 0;
-    let mut left = channels;
-    while 0 < left {
-        let end = start + samples;
-        scale(&mut frame[start..end], gain);
-        start = end;
-        left -= 1;
-    }
-}
-
-// Lends each channel's part to `multiply`.
-fn multiply_channels(frame: &mut [f32], channels: usize, samples: usize, gains: &[f32])
-    requires { (length frame.old ≡ channels * samples) × (samples ≤ length gains.now) }
-    ensures { frame.new ≡ each_part (multiplied gains.now) channels samples frame.old }
-{
-    let mut start = 0;
-    let mut left = channels;
-    while 0 < left {
-        let end = start + samples;
-        multiply(&mut frame[start..end], gains);
-        start = end;
-        left -= 1;
-    }
-}
-
-// Ramps each channel's part. The gains are the same for each, so they are worked out once, in a list
-// that is lent for them.
-fn ramp_by(
-    frame: &mut [f32],
-    channels: usize,
-    samples: usize,
-    from: f32,
-    step: f32,
-    gains: &mut [f32],
-)
-    requires { (length frame.old ≡ channels * samples) × (length gains.old ≡ samples) }
-    ensures { frame.new ≡ each_part (ramped from step) channels samples frame.old }
-{
-    fill_gains(gains, from, step);
-    multiply_channels(frame, channels, samples, gains);
-}
-
-// Ramps each channel's part.
-fn ramp_channels(frame: &mut [f32], channels: usize, samples: usize, from: f32, step: f32)
+// Ramps each channel's part. The gains are the same for each, so they are worked out once.
+fn ramp(frame: &mut [f32], channels: usize, samples: usize, from: f32, step: f32)
     requires { (length frame.old ≡ channels * samples) × (samples ≤ 480) }
     ensures { frame.new ≡ each_part (ramped from step) channels samples frame.old }
 {
-    let mut gains = [0.0; 480];
-    ramp_by(frame, channels, samples, from, step, &mut gains[..samples]);
+    let mut room = [0.0; 480];
+    let gains = &mut room[..samples];
+    fill_gains(gains, from, step);
+    frames::each_channel(frame, channels, samples, |part| multiply(part, gains));
 }
 
 // Puts the gain on a frame: nothing where it stays and is close to 1, the same factor everywhere where
@@ -228,9 +171,9 @@ fn put_gain(
         if is_close_to_one(current) {
             return;
         }
-        scale_channels(frame, channels, samples, current);
+        frames::each_channel(frame, channels, samples, |part| scale(part, current));
     } else {
-        ramp_channels(frame, channels, samples, last, (current - last) * inverse);
+        ramp(frame, channels, samples, last, (current - last) * inverse);
     }
 }
 

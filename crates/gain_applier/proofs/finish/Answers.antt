@@ -8,7 +8,7 @@ unfolding finished
 returns-then-clip c =
     let at_test = c in
     let set : at_test.args.clip ≡ true = at_test.if-clip.true in
-    rw set c.clip_part.ensures
+    rw set c.clip_samples.ensures
 
 pub returns-else-clip : goal.returns-else-clip
 unfolding finished

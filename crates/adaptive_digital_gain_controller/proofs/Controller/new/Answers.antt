@@ -1,9 +1,9 @@
 -- `adaptive_digital_gain_controller::Controller::new` meets its contract: settings that are accepted have an initial gain whose ratio is a gain factor.
 -- Assumes nothing.
-use Rattle.std.proofs.Common.{◌≡◌, ◌∙◌, ℕ, Bool, true, false, [], ◌∷◌, ◌&&◌, sym, ap, refl, rules, Ok, Err}
-use Rattle.std.specs.Prelude.{Result, T}
+use Rattle.std.proofs.Common.{◌≡◌, ◌∙◌, ℕ, Bool, true, false, [], ◌∷◌, ◌&&◌, sym, refl, rules, Ok, Err}
+use Rattle.std.specs.Prelude.{Result}
 use Rattle.std.specs.Result.{IsErrAnd}
-use lib.Ieee.{Float, binary32, fits}
+use lib.Ieee.{Float}
 use Rattle.lists.specs.Tests.{each_of}
 use Rattle.decibels.specs.Ratio.{answer}
 use Rattle.units.specs.Replies.{done, refusal}

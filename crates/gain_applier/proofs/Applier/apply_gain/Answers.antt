@@ -6,7 +6,7 @@ use Rattle.std.specs.Prelude.{Result}
 use Rattle.std.specs.Result.{IsErrAnd}
 use Rattle.units.specs.Replies.{done}
 use Rattle.units.specs.Handed.{handed}
-use Rattle.units.specs.Laws.Handed.{refused_by, passed_by, passed_done, handed_done}
+use Rattle.units.specs.Laws.Handed.{refused_by, passed_done, handed_done}
 use Rattle.units.specs.declared.refusals.Refusal.{Refusal}
 use Rattle.frames.specs.Facts.{Sizes, taken, shape_facts}
 use Rattle.frames.specs.Refusal.{frame_refusal}
