@@ -1,8 +1,8 @@
 -- The largest magnitude as the estimator finds it: in four lanes, each over every fourth sample, and one sub-frame after the other, each over all channels.
 -- A lane has the highest sample, the lowest and the sum: where a sample is a NaN or an infinity, its sum is no number any more.
 -- The words of what its functions promise one another; Laws/Lanes.antt and Laws/Columns.antt say that this finds the same. Definitions only.
-use Rattle.std.specs.Prelude.{List, [], ◌++◌, ◌≡◌, ℕ, zero, suc, ◌≤◌, T, Float, take, drop}
-use Rattle.std.specs.Float.{binary32}
+use Rattle.std.specs.Prelude.{List, [], ◌++◌, ◌≡◌, ℕ, zero, suc, ◌≤◌, T, Float, take, drop, get_or}
+use Rattle.std.specs.Float.{nan, binary32}
 use Rattle.std.specs.Float.Ieee.{of_bits, sub}
 use Rattle.std.specs.Float.Ieee.Scale.{finite}
 use Rattle.lists.specs.Each.{Each}
@@ -12,7 +12,58 @@ use Rattle.floats.specs.Choice.{larger, smaller}
 use Rattle.floats.specs.Kinds.{magnitude}
 use Rattle.floats.specs.Laws.Kinds.{nought}
 use Rattle.frames.specs.Samples.{largest_level}
-use Rattle.fixed_digital_level_estimator.specs.declared.Lanes.{Lanes}
+use Rattle.fixed_digital_level_estimator.specs.declared.lanes.Lanes.{Lanes as Vectors}
+
+-- the highest samples a to d, the lowest e to h, and the sums s to v
+pub record Lanes : Type 0 where
+  pub a : Float
+  pub b : Float
+  pub c : Float
+  pub d : Float
+  pub e : Float
+  pub f : Float
+  pub g : Float
+  pub h : Float
+  pub s : Float
+  pub t : Float
+  pub u : Float
+  pub v : Float
+
+-- the lanes of the three vectors that the code has
+abbrev pub lanes_of : Vectors → Lanes
+lanes_of l =
+    record {
+      a = get_or l.high 0 nan;
+      b = get_or l.high 1 nan;
+      c = get_or l.high 2 nan;
+      d = get_or l.high 3 nan;
+      e = get_or l.low 0 nan;
+      f = get_or l.low 1 nan;
+      g = get_or l.low 2 nan;
+      h = get_or l.low 3 nan;
+      s = get_or l.sum 0 nan;
+      t = get_or l.sum 1 nan;
+      u = get_or l.sum 2 nan;
+      v = get_or l.sum 3 nan;
+    }
+
+-- before any sample of a sub-frame nothing is found, and the sums go on
+abbrev pub starting : List Float → Lanes
+starting sum =
+    record {
+      a = nought;
+      b = nought;
+      c = nought;
+      d = nought;
+      e = nought;
+      f = nought;
+      g = nought;
+      h = nought;
+      s = get_or sum 0 nan;
+      t = get_or sum 1 nan;
+      u = get_or sum 2 nan;
+      v = get_or sum 3 nan;
+    }
 
 -- a number that is a magnitude: it is no -0
 pub record Plain (x : Float) : Type 0 where

@@ -5,13 +5,14 @@ use mathlib.Core.Bool.{Bool, true, false, cond, ◌&&◌}
 use mathlib.Core.List.{List, ◌∷◌, ◌++◌, append-nil}
 use mathlib.Core.Path.{◌≡◌, refl, sym, ap, ap₂, ◌∙◌}
 use Prim.Native.Nat.{ℕ, suc, ◌+◌, ◌*◌, ◌≤◌, ◌<◌, ◌-◌}
-use native.Mathlib.Nat.{mul-le-mul_right, le_of_eq}
+use native.Mathlib.Nat.{mul-le-mul_right, le_of_eq, suc-mul}
+use native.Mathlib.Numerals.{add-one}
+use Rattle.std.proofs.Math.Nat.{zero-mul}
 use native.Mathlib.Omega.{arith}
-use lib.Ieee.{Float, le}
+use lib.Ieee.{Float, nan, le}
 use lib.Ieee.Scale.{finite}
-use lib.ListN.{length, set, take, drop, replicate, length-set}
+use lib.ListN.{length, get_or, set, take, drop, replicate, length-set}
 use lib.Seq.{drop-drop, take_all}
-use borrow.Author.Rules.{rules}
 use Rattle.lists.specs.Each.{each_drop}
 use Rattle.lists.specs.Stores.{stores}
 use Rattle.rounding.specs.Loops.{Within}
@@ -20,11 +21,10 @@ use Rattle.floats.specs.Laws.Kinds.{nought, passed}
 use Rattle.frames.specs.Samples.{largest_level, all_within}
 use Rattle.fixed_digital_level_estimator.specs.Range.{Held}
 use Rattle.fixed_digital_level_estimator.specs.Envelope.{silence, peak_from}
-use Rattle.fixed_digital_level_estimator.specs.Lanes.{Real, Raised, bound, column, peak}
+use Rattle.fixed_digital_level_estimator.specs.Lanes.{Lanes, lanes_of, starting, Real, Raised, bound, column, peak}
 use Rattle.fixed_digital_level_estimator.specs.Laws.Lanes.{started, same_peak}
 use Rattle.fixed_digital_level_estimator.specs.Laws.Columns.{peaks_down, over_down, one_column, no_column}
 use Rattle.fixed_digital_level_estimator.specs.Laws.Tested.{Tested, tested_start, tested_next, test_real, tested}
-use Rattle.fixed_digital_level_estimator.specs.declared.Lanes.{Lanes}
 use Rattle.fixed_digital_level_estimator.proofs.frame_peaks.Goals as goal
 
 -- while a sub-frame is left, there is room for it
@@ -68,43 +68,44 @@ answers frame c n s rest peaks want highest x y z w p q o m ep eq eo em known he
       λ (h : le highest largest_level && finite x && finite y && finite z && finite w ≡ true). found (test_real frame c n s rest highest x y z w known (passed h)),
     )
 
+-- the place of the next sub-frame
+next_at : (k part : ℕ) → (k + 1) * part ≡ k * part + part
+next_at k part = rw add-one (suc-mul k part)
+
 pub loop-k-init : goal.loop-k-init
 loop-k-init c =
-    let start = c in
-    let args = start.args in (
-      omega arith,
-      search rules,
-      omega arith,
-      λ (h : _). refl,
-      tested_start args.frame.now args.channels args.samples args.part 20 start.requires.1 start.requires.0,
-    )
+    let args = c.args in
+    rw (zero-mul args.part) (refl, λ (h : _). refl, tested_start args.frame.now args.channels args.samples args.part 20 c.requires.1 c.requires.0)
+
+pub overflow_mul-k : goal.overflow_mul-k
+overflow_mul-k c =
+    let at = c.loop-k.k * c.args.part in
+    record { fits = omega (arith, room at c.loop-k.k c.args.part c.args.samples (omega arith) refl c.requires.1) }
 
 pub raise_by_column-next-requires : goal.raise_by_column-next-requires
-raise_by_column-next-requires c = (c.requires.0, room c.loop-k.at c.loop-k.k c.args.part c.args.samples (omega arith) c.loop-k.invariant.2 c.requires.1)
-
-pub overflow_add-at : goal.overflow_add-at
-overflow_add-at c = omega (arith, room c.loop-k.at c.loop-k.k c.args.part c.args.samples (omega arith) c.loop-k.invariant.2 c.requires.1)
+raise_by_column-next-requires c = (c.requires.0, room (c.loop-k.k * c.args.part) c.loop-k.k c.args.part c.args.samples (omega arith) refl c.requires.1, c.requires.2)
 
 pub loop-k-preserved : goal.loop-k-preserved
 loop-k-preserved c =
     let loop = c.loop-k in
     let args = c.args in
+    let sum = loop.sum in
+    let at = loop.k * args.part in
     let found = c.largest-peak.result in
-    let lanes = c.raise_by_column-next.result in
-    let raised = c.raise_by_column-next.ensures in
-    let real : Real (started lanes.s lanes.t lanes.u lanes.v) → Real lanes =
-    λ (h : Real (started lanes.s lanes.t lanes.u lanes.v)). record { s = h.s; t = h.t; u = h.u; v = h.v }
-    in (
-      omega arith,
-      simp length-set loop.invariant.1,
-      omega arith,
-      λ (h : Real (started lanes.s lanes.t lanes.u lanes.v)).
-          one-part args.channels args.samples args.part loop.at loop.k args.frame.now loop.peaks found (omega arith) loop.invariant.1
+    let lanes = lanes_of c.raise_by_column-next.result in
+    let raised = rw c.at.ensures at c.raise_by_column-next.ensures in
+    let real : Real (starting c.raise_by_column-next.result.sum) → Real lanes =
+    λ (h : Real (starting c.raise_by_column-next.result.sum)). record { s = h.s; t = h.t; u = h.u; v = h.v }
+    in
+    rw (next_at loop.k args.part) (
+      simp length-set loop.invariant.0,
+      λ (h : Real (starting c.raise_by_column-next.result.sum)).
+          one-part args.channels args.samples args.part at loop.k args.frame.now loop.peaks found (omega arith) loop.invariant.0
           (c.largest-peak.ensures
-          ∙ same_peak loop.s loop.t loop.u loop.v (column args.channels args.samples args.part (drop loop.at args.frame.now)) lanes raised (real h))
-          ∙ loop.invariant.3 (raised.before (real h)),
-      one-tested args.frame.now args.channels args.samples args.part loop.at loop.k loop.highest loop.s loop.t loop.u loop.v found
-          c.larger-highest.result lanes (omega arith) c.largest-peak.ensures c.larger-highest.ensures raised loop.invariant.4,
+          ∙ same_peak (get_or sum 0 nan) (get_or sum 1 nan) (get_or sum 2 nan) (get_or sum 3 nan) (column args.channels args.samples args.part (drop at args.frame.now)) lanes raised (real h))
+          ∙ loop.invariant.1 (raised.before (real h)),
+      one-tested args.frame.now args.channels args.samples args.part at loop.k loop.highest (get_or sum 0 nan) (get_or sum 1 nan) (get_or sum 2 nan) (get_or sum 3 nan) found
+          c.larger-highest.result lanes (omega arith) c.largest-peak.ensures c.larger-highest.ensures raised loop.invariant.2,
     )
 
 -- what is handed out
@@ -117,35 +118,35 @@ kept within test peaks want a h = rw (← a.0, h)
 pub returns-then-tame : goal.returns-then-tame
 returns-then-tame c =
     let loop = c.loop-k in
-    let known = c in
-    let args = known.args in
+    let args = c.args in
     let frame = args.frame.now in
-    let rest = drop loop.at frame in
+    let sum = loop.sum in
+    let rest = drop (loop.k * args.part) frame in
     let none : 20 - loop.k ≡ 0 = omega arith in
     given _ _ loop.peaks _
-    (answers frame args.channels args.samples args.part rest loop.peaks _ loop.highest loop.s loop.t loop.u loop.v _ _ _ _
+    (answers frame args.channels args.samples args.part rest loop.peaks _ loop.highest (get_or sum 0 nan) (get_or sum 1 nan) (get_or sum 2 nan) (get_or sum 3 nan) _ _ _ _
     c.is_finite.ensures c.is_finite-2.ensures c.is_finite-3.ensures c.is_finite-4.ensures
-    (rw none at loop.invariant.4) known.shared_slice_known-1.given
-    (λ (h : Real (started loop.s loop.t loop.u loop.v)).
-    no_part args.channels args.samples args.part loop.k rest loop.peaks (omega arith) loop.invariant.1
-    ∙ loop.invariant.3 h
-    ∙ sym (over_down args.channels args.samples args.part silence frame (le_of_eq (sym known.requires.1)))))
+    (rw none at loop.invariant.2) c.type_inv.frame
+    (λ (h : Real (starting sum)).
+    no_part args.channels args.samples args.part loop.k rest loop.peaks (omega arith) loop.invariant.0
+    ∙ loop.invariant.1 h
+    ∙ sym (over_down args.channels args.samples args.part silence frame (le_of_eq (sym c.requires.1)))))
     c.if-tame.true
 
 pub returns-else-tame : goal.returns-else-tame
 returns-else-tame c =
     let loop = c.loop-k in
-    let known = c in
-    let args = known.args in
+    let args = c.args in
     let frame = args.frame.now in
-    let rest = drop loop.at frame in
+    let sum = loop.sum in
+    let rest = drop (loop.k * args.part) frame in
     let none : 20 - loop.k ≡ 0 = omega arith in
     kept _ _ loop.peaks _
-    (answers frame args.channels args.samples args.part rest loop.peaks _ loop.highest loop.s loop.t loop.u loop.v _ _ _ _
+    (answers frame args.channels args.samples args.part rest loop.peaks _ loop.highest (get_or sum 0 nan) (get_or sum 1 nan) (get_or sum 2 nan) (get_or sum 3 nan) _ _ _ _
     c.is_finite.ensures c.is_finite-2.ensures c.is_finite-3.ensures c.is_finite-4.ensures
-    (rw none at loop.invariant.4) known.shared_slice_known-1.given
-    (λ (h : Real (started loop.s loop.t loop.u loop.v)).
-    no_part args.channels args.samples args.part loop.k rest loop.peaks (omega arith) loop.invariant.1
-    ∙ loop.invariant.3 h
-    ∙ sym (over_down args.channels args.samples args.part silence frame (le_of_eq (sym known.requires.1)))))
+    (rw none at loop.invariant.2) c.type_inv.frame
+    (λ (h : Real (starting sum)).
+    no_part args.channels args.samples args.part loop.k rest loop.peaks (omega arith) loop.invariant.0
+    ∙ loop.invariant.1 h
+    ∙ sym (over_down args.channels args.samples args.part silence frame (le_of_eq (sym c.requires.1)))))
     c.if-tame.false

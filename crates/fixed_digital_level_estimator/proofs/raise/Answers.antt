@@ -30,13 +30,12 @@ loop-k-preserved c =
     let loop = c.loop-k in
     let out = loop.out in
     let k = loop.k in (
-      omega arith,
-      simp length-set loop.invariant.1,
+      simp length-set loop.invariant.0,
       in_place raised raised out k nan c.larger-higher.result (omega arith) (with-neighbour out k (omega arith) ∙ ap (λ (v : Float). v ∷ raised (drop (k + 1) out)) (sym c.larger-higher.ensures))
-          ∙ loop.invariant.2,
+          ∙ loop.invariant.1,
     )
 
 pub returns : goal.returns
 returns c =
     let loop = c.loop-k in
-    sym (last-stays loop.out loop.k (omega arith) (omega arith)) ∙ loop.invariant.2
+    sym (last-stays loop.out loop.k (omega arith) (omega arith)) ∙ loop.invariant.1

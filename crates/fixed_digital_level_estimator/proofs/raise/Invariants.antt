@@ -2,13 +2,9 @@
 -- whole. The right neighbour that is read is not raised yet, since the loop goes up. Assumes nothing.
 use mathlib.Core.List.{◌++◌}
 use mathlib.Core.Path.{◌≡◌}
-use Prim.Native.Nat.{◌≤◌, ◌-◌}
 use lib.ListN.{length, take, drop}
 use Rattle.fixed_digital_level_estimator.specs.Envelope.{raised}
 use Rattle.fixed_digital_level_estimator.proofs.raise.Given as goal
 
 abbrev pub invariant-loop-k : goal.invariant-loop-k
-invariant-loop-k l = (l.k ≤ 19) × (length l.out ≡ 20) × (take l.k l.out ++ raised (drop l.k l.out) ≡ raised l.initial.out)
-
-abbrev pub decreases-loop-k : goal.decreases-loop-k
-decreases-loop-k l = 19 - l.k
+invariant-loop-k l = (length l.out ≡ 20) × (take l.k l.out ++ raised (drop l.k l.out) ≡ raised l.initial.out)

@@ -19,12 +19,11 @@ loop-k-preserved c =
     let twenty : length found ≡ 20 = search rules in
     let out = loop.out in
     let k = loop.k in
-    let value = c.follow-value.result in (
-      omega arith,
-      simp length-set loop.invariant.1,
+    let value = c.follow-last.result in (
+      simp length-set loop.invariant.0,
       across (λ (ys : List Float). linear (smoothed loop.last ys)) (λ (ys : List Float). linear (smoothed value ys)) found out k nan (record { 0 = value }) (omega arith) (omega arith)
-          (ap (λ (v : Float). linear (v ∷ smoothed v (drop (k + 1) found))) (sym c.follow-value.ensures))
-          ∙ loop.invariant.2,
+          (ap (λ (v : Float). linear (v ∷ smoothed v (drop (k + 1) found))) (sym c.follow-last.ensures))
+          ∙ loop.invariant.1,
     )
 
 pub returns : goal.returns
@@ -33,4 +32,4 @@ returns c =
     let loop = c.loop-k in
     let found = c.args.found in
     let twenty : length found ≡ 20 = search rules in
-    sym (across_done (λ (ys : List Float). linear (smoothed loop.last ys)) found loop.out loop.k (omega arith) (omega arith) refl) ∙ loop.invariant.2
+    sym (across_done (λ (ys : List Float). linear (smoothed loop.last ys)) found loop.out loop.k (omega arith) (omega arith) refl) ∙ loop.invariant.1

@@ -2,14 +2,10 @@
 -- on, is the smoothing of the whole. Assumes nothing.
 use mathlib.Core.List.{◌++◌}
 use mathlib.Core.Path.{◌≡◌}
-use Prim.Native.Nat.{◌≤◌, ◌-◌}
 use lib.ListN.{length, take, drop}
 use Rattle.fixed_digital_level_estimator.specs.Envelope.{smoothed, linear}
 use Rattle.fixed_digital_level_estimator.proofs.smooth.Given as goal
 
 abbrev pub invariant-loop-k : goal.invariant-loop-k
 invariant-loop-k l =
-    (l.k ≤ 20) × (length l.out ≡ 20) × (take l.k l.out ++ linear (smoothed l.last (drop l.k l.found)) ≡ linear (smoothed l.level l.found))
-
-abbrev pub decreases-loop-k : goal.decreases-loop-k
-decreases-loop-k l = 20 - l.k
+    (length l.out ≡ 20) × (take l.k l.out ++ linear (smoothed l.last (drop l.k l.fn.found)) ≡ linear (smoothed l.level l.fn.found))

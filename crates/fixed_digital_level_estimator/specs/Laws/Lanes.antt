@@ -26,7 +26,7 @@ use Rattle.frames.specs.Squares.{without_sign}
 use Rattle.fixed_digital_level_estimator.specs.Envelope.{peak_from}
 use Rattle.fixed_digital_level_estimator.specs.Range.{Held}
 use Rattle.fixed_digital_level_estimator.specs.Lanes.{Plain, Upper, Lower, Signed, Below, Real, Small, Raised, bound, most, peak}
-use Rattle.fixed_digital_level_estimator.specs.declared.Lanes.{Lanes}
+use Rattle.fixed_digital_level_estimator.specs.Lanes.{Lanes}
 
 -- ---- two magnitudes with the same units are the same
 pub none_below : (x : Float) → N (magnitude x) ≡ 0

@@ -19,7 +19,7 @@ use Rattle.fixed_digital_level_estimator.specs.Lanes.{Upper, Real, Small, Found,
 use Rattle.fixed_digital_level_estimator.specs.Laws.Range.{end_units, high_number, sample_level}
 use Rattle.fixed_digital_level_estimator.specs.Laws.Lanes.{Higher, higher, none_below, plain_zero, plain_magnitude, magnitude_under, magnitude_over, nought_units, started, started_signed, started_below, peak_plain, peak_under, peak_over}
 use Rattle.fixed_digital_level_estimator.specs.Laws.Columns.{EachColumn, each_column, covered}
-use Rattle.fixed_digital_level_estimator.specs.declared.Lanes.{Lanes}
+use Rattle.fixed_digital_level_estimator.specs.Lanes.{Lanes}
 
 -- ---- a sample's test, in units
 real_number : (x : Float) → T (fits binary32 x) → Number (magnitude x) → Number x

@@ -3,7 +3,7 @@
 use mathlib.Core.Bool.{Bool, true, false, cond, ◌&&◌}
 use mathlib.Core.List.{List, [], ◌∷◌}
 use mathlib.Core.Path.{◌≡◌, refl, sym, ap, ◌∙◌}
-use Prim.Native.Nat.{ℕ, ◌*◌}
+use Prim.Native.Nat.{ℕ, ◌*◌, ◌<◌}
 use native.Mathlib.Omega.{arith}
 use lib.Dec.{eqb}
 use lib.Ieee.{Float}
@@ -43,10 +43,12 @@ module _ (e : Estimator) (frame : List Float) (channels samples : ℕ) where
   replied = refl
 
   -- a frame that gets so far has the shape that its peaks ask for
-  shaped : shape ≡ true → passes e ≡ true → (length frame ≡ channels * samples) × (samples ≡ 20 * e.part)
+  shaped : shape ≡ true → passes e ≡ true → (length frame ≡ channels * samples) × (samples ≡ 20 * e.part) × (0 < samples)
   shaped t p =
       let s = each_of (is_shape channels samples (length frame) ∷ eqb samples e.samples ∷ []) t in
-      ((shape_facts channels samples (length frame) (s 0)).1, eqb-true samples e.samples (s 1) ∙ (passing e p).whole)
+      let known = shape_facts channels samples (length frame) (s 0) in
+      let least = known.0.each.least in
+      (known.1, eqb-true samples e.samples (s 1) ∙ (passing e p).whole, omega arith)
 
   -- one that is taken
   taken : shape ≡ true → passes e ≡ true → all_within largest_level frame ≡ true → (envelope : List LinearS16) (d : LinearS16)

@@ -1,7 +1,0 @@
--- `fixed_digital_level_estimator::largest` meets its contract: the calls are the definition's. Assumes nothing.
-use Rattle.fixed_digital_level_estimator.specs.Lanes.{peak}
-use Rattle.fixed_digital_level_estimator.proofs.largest.Goals as goal
-
-pub returns : goal.returns
-unfolding peak
-returns c = cc
