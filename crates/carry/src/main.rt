@@ -156,8 +156,8 @@ fn carry_from(rt: &HostRuntime, strip: &File, from: Version) {
             write_strip(rt, strip, from, first);
         }
         Some(Err(refused)) => {
-            let _ = eprintln!(rt; "{} R {}", refused.number, refused.refusal);
-            io::print_decimal(REPLY_FILENO, u64::from(refused.refusal.number()));
+            let _ = eprintln!(rt; "{} R {}", refused.number, refused.reply);
+            io::print_decimal(REPLY_FILENO, u64::from(refused.reply));
         }
     }
 }

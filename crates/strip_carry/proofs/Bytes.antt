@@ -4,7 +4,10 @@ use Rattle.strip_reader.specs.Reader.{Fed, step_of, handed, fed}
 use Rattle.strip_reader.specs.Telling.{Ran, ran, ended, taken}
 use Rattle.strip_reader.specs.declared.Reader.{Reader}
 use Rattle.strip_reader.specs.declared.Step.{Step}
-use Rattle.strip_carry.specs.Run.{Tally, Line, Run, after, told, line_of, run_of, taken_run}
+use Rattle.strip_carry.specs.declared.Line.{Line}
+use Rattle.strip_carry.specs.declared.Run.{Run}
+use Rattle.strip_carry.specs.declared.Tally.{Tally}
+use Rattle.strip_carry.specs.Run.{after, told, line_of, run_of, taken_run}
 
 -- what the bytes from a place on give is what the byte there gives, and then those after it
 pub next_byte : (block : List ℕ) (i : ℕ) (r : Reader) (t : Tally) (s : Step) (line : Line) → i < length block → step_of s ≡ fed r (get_or block i 0) → line ≡ line_of (told t (handed s.got))

@@ -19,7 +19,9 @@ use Rattle.strip_format.specs.declared.Head.{Head}
 use Rattle.strip_reader.specs.Reader.{head, entry}
 use Rattle.strip_reader.specs.Telling.{Shown}
 use Rattle.strip_carry.specs.Carry.{says_head, says_entry}
-use Rattle.strip_carry.specs.Run.{Tally, Line, said, not_said, passed_by, next, with_threshold, shown, line_of, line_out}
+use Rattle.strip_carry.specs.declared.Line.{Line}
+use Rattle.strip_carry.specs.declared.Tally.{Tally}
+use Rattle.strip_carry.specs.Run.{said, not_said, passed_by, next, with_threshold, shown, line_of, line_out}
 
 -- a function's two promises: its answer and the buffer
 abbrev pub Prints : Shown Tally → List ℕ → Line → List ℕ → Type 0

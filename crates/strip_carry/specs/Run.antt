@@ -6,25 +6,15 @@ use Rattle.strip_format.specs.Format.{in_version, head_fields, head_bytes, entry
 use Rattle.strip_format.specs.declared.Version.{Version}
 use Rattle.strip_format.specs.declared.Version.TheVariants.{Two}
 use Rattle.strip_reader.specs.Reader.{Handed, more, head, entry, end, refused, fresh_in}
-use Rattle.strip_reader.specs.declared.Reader.{Reader}
 use Rattle.strip_reader.specs.Telling.{Shown, unchanged, Ran, taken}
 use Rattle.strip_carry.specs.Carry.{other, says_head, says_entry}
+use Rattle.strip_carry.specs.declared.Tally.{Tally}
+use Rattle.strip_carry.specs.declared.Run.{Run}
+use Rattle.strip_carry.specs.declared.Line.{Line}
 use Rattle.strip_carry.specs.declared.Way.{Way}
 use Rattle.strip_carry.specs.declared.Way.TheVariants as Ways
 
 -- ---- the tally
--- what was seen of a strip so far: the version that it is carried to; the number of what comes next, 0 for the head; whether the strip goes on; the reply, which
--- is 9 from the first thing on that cannot be said, or what the strip is refused with, and the record that it is about; the threshold, 0 before the head; and how
--- many bytes were put out
-pub record Tally : Type 0 where
-  pub to : Version
-  pub number : ℕ
-  pub more : Bool
-  pub reply : ℕ
-  pub at : ℕ
-  pub threshold : ℕ
-  pub length : ℕ
-
 -- a number and so many more; it has 64 bits, and would roll over
 abbrev pub after : ℕ → ℕ → ℕ
 after n k = (n + k) % 2 ^ 64
@@ -80,11 +70,7 @@ unfoldable pub told : Tally → Handed → Shown Tally
 unfolding shown
 told t h = cond t.more (shown t h) (unchanged t)
 
--- what was put to the start of a buffer that has room for it: the tally that goes on, and how many bytes that are
-pub record Line : Type 0 where
-  pub tally : Tally
-  pub length : ℕ
-
+-- what was put to the start of a buffer that has room for it
 abbrev pub line_of : Shown Tally → Line
 line_of s = record { tally = s.desk; length = length s.line }
 
@@ -92,12 +78,6 @@ abbrev pub line_out : Shown Tally → List ℕ → List ℕ
 line_out s out = s.line ++ drop (length s.line) out
 
 -- ---- the run
--- how far a strip is carried: its reader, what was seen of it, and how many bytes of it came
-pub record Run : Type 0 where
-  pub reader : Reader
-  pub tally : Tally
-  pub place : ℕ
-
 -- a run that has seen no byte of a strip of this version
 unfoldable pub new : Version → Run
 unfolding fresh_in at_start

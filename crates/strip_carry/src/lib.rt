@@ -11,29 +11,35 @@ ghost use Rattle.strip_reader.specs.Reader.{handed};
 ghost use Rattle.strip_reader.specs.Telling.{ended};
 ghost use Rattle.strip_carry.specs.Carry.{other, carried, carried_out};
 ghost use Rattle.strip_carry.specs.Run.{said, not_said, passed_by, ended_with, shown, told, line_of, line_out, new, run_of, taken_of, out_of, is_up, is_back, way_of, told_of, same, end_of};
-ghost use Rattle.strip_carry.specs.Seen.{reply_of, record_of, tally_seen, line_seen, run_seen, bytes_ran, taken_seen, carried_seen, told_seen, end_seen};
+ghost use Rattle.strip_carry.specs.Seen.{bytes_ran, taken_seen, carried_seen, told_seen, end_seen};
 
 use strip_format::{HEAD_BYTES, Head, Version, write_gap, write_head, write_record};
 use strip_reader::{Got, Reader};
 use units::figures::Figures;
 use units::refusals::Refusal;
 
-// What a strip is refused with, and the record that this is about, which is 0 for the head and for the buffer.
+// The reply's number where nothing is refused.
+const DONE: u32 = 0;
+
+// What a strip is refused with, by its number in the replies, and the record that this is about, which is 0 for the head and for
+// the buffer. It is a number, and no `Refusal`: `told_of` answers any that it finds in a tally.
 #[derive(Clone, Copy, Debug, PartialEq, Eq, Hash)]
 pub struct Refused {
-    pub refusal: Refusal,
+    pub reply: u32,
     pub number: u64,
 }
 
 // What was seen of a strip so far: the version that it is carried to; the number of what comes next, 0 for the head; whether
-// the strip goes on; what is refused, which is 9 from the first thing on that cannot be said, or what the strip is refused
-// with; the threshold, 0 before the head; and how many bytes were put out.
+// the strip goes on; the reply, which is 9 from the first thing on that cannot be said, or what the strip is refused with,
+// and the record that it is about; the threshold, 0 before the head; and how many bytes were put out. The reply is a number,
+// and no `Refusal`: `take`, `told_of` and `end_of` take any number there.
 #[derive(Clone, Copy)]
 pub struct Tally {
     pub to: Version,
     pub number: u64,
     pub more: bool,
-    pub refused: Option<Refused>,
+    pub reply: u32,
+    pub at: u64,
     pub threshold: u32,
     pub length: u64,
 }
@@ -94,7 +100,7 @@ fn other(version: Version) -> Version
 // The next thing is counted.
 #[tactic(auto, unfolding(crate::specs::Run::passed_by))]
 fn counted(tally: Tally) -> Tally
-    ensures { tally_seen result ≡ (passed_by (tally_seen tally)).desk }
+    ensures { result ≡ (passed_by tally).desk }
 {
     Tally {
         number: tally.number.wrapping_add(1),
@@ -106,7 +112,7 @@ fn counted(tally: Tally) -> Tally
 // The next thing of a strip of which something cannot be said: it is counted, and nothing is put out.
 #[tactic(auto, unfolding(crate::specs::Run::passed_by))]
 fn pass_by(tally: Tally) -> Line
-    ensures { line_seen result ≡ line_of (passed_by (tally_seen tally)) }
+    ensures { result ≡ line_of (passed_by tally) }
 {
     Line {
         tally: counted(tally),
@@ -117,8 +123,8 @@ fn pass_by(tally: Tally) -> Line
 // The next thing, of which the other version's writer says how many bytes it wrote. What the writer refuses cannot be said.
 #[tactic(auto, unfolding(crate::specs::Run::said, crate::specs::Run::not_said, crate::specs::Run::passed_by, units::specs::Handed::number_of))]
 fn count(tally: Tally, written: Result<usize, Refusal>) -> Line
-    ensures said { IfOk written (λ n. line_seen result ≡ record { tally = said (tally_seen tally) n; length = n }) }
-    ensures not_said { IfErr written (λ e. line_seen result ≡ line_of (not_said (tally_seen tally))) }
+    ensures said { IfOk written (λ n. result ≡ record { tally = said tally n; length = n }) }
+    ensures not_said { IfErr written (λ e. result ≡ line_of (not_said tally)) }
 {
     let next = counted(tally);
     match written {
@@ -129,32 +135,29 @@ fn count(tally: Tally, written: Result<usize, Refusal>) -> Line
             },
             length: n,
         },
-        Err(_) => {
-            let refusal = Refusal::Unsaid;
-            let number = tally.number;
-            Line {
-                tally: Tally {
-                    refused: Some(Refused { refusal, number }),
-                    ..next
-                },
-                length: 0,
-            }
-        }
+        Err(_) => Line {
+            tally: Tally {
+                reply: Refusal::Unsaid.number(),
+                at: tally.number,
+                ..next
+            },
+            length: 0,
+        },
     }
 }
 
 // The head, in the version that the strip is carried to.
 fn carry_head(tally: Tally, head: Head, out: &mut [u8]) -> Line
-    requires { length (shown (tally_seen tally) (Reading.head head)).line ≤ length out.old }
-    ensures value { line_seen result ≡ line_of (shown (tally_seen tally) (Reading.head head)) }
-    ensures out_after { out.new ≡ line_out (shown (tally_seen tally) (Reading.head head)) out.old }
+    requires { length (shown tally (Reading.head head)).line ≤ length out.old }
+    ensures value { result ≡ line_of (shown tally (Reading.head head)) }
+    ensures out_after { out.new ≡ line_out (shown tally (Reading.head head)) out.old }
 {
     let known = Tally {
         more: true,
         threshold: head.threshold,
         ..tally
     };
-    if tally.refused.is_some() {
+    if tally.reply != DONE {
         return pass_by(known);
     }
     let version = tally.to;
@@ -165,11 +168,11 @@ fn carry_head(tally: Tally, head: Head, out: &mut [u8]) -> Line
 
 // The figures of a frame.
 fn carry_figures(tally: Tally, figures: Figures, out: &mut [u8]) -> Line
-    requires { length (shown (tally_seen tally) (Reading.entry (Format.figures figures))).line ≤ length out.old }
-    ensures value { line_seen result ≡ line_of (shown (tally_seen tally) (Reading.entry (Format.figures figures))) }
-    ensures out_after { out.new ≡ line_out (shown (tally_seen tally) (Reading.entry (Format.figures figures))) out.old }
+    requires { length (shown tally (Reading.entry (Format.figures figures))).line ≤ length out.old }
+    ensures value { result ≡ line_of (shown tally (Reading.entry (Format.figures figures))) }
+    ensures out_after { out.new ≡ line_out (shown tally (Reading.entry (Format.figures figures))) out.old }
 {
-    if tally.refused.is_some() {
+    if tally.reply != DONE {
         return pass_by(tally);
     }
     let written = write_record(figures, out);
@@ -178,26 +181,27 @@ fn carry_figures(tally: Tally, figures: Figures, out: &mut [u8]) -> Line
 
 // A gap.
 fn carry_gap(tally: Tally, out: &mut [u8]) -> Line
-    requires { length (shown (tally_seen tally) (Reading.entry Format.gap)).line ≤ length out.old }
-    ensures value { line_seen result ≡ line_of (shown (tally_seen tally) (Reading.entry Format.gap)) }
-    ensures out_after { out.new ≡ line_out (shown (tally_seen tally) (Reading.entry Format.gap)) out.old }
+    requires { length (shown tally (Reading.entry Format.gap)).line ≤ length out.old }
+    ensures value { result ≡ line_of (shown tally (Reading.entry Format.gap)) }
+    ensures out_after { out.new ≡ line_out (shown tally (Reading.entry Format.gap)) out.old }
 {
-    if tally.refused.is_some() {
+    if tally.reply != DONE {
         return pass_by(tally);
     }
     let written = write_gap(tally.to, out);
     count(tally, written)
 }
 
-// The strip ends, refused or not.
+// The strip ends, with a reply and the record that it is about.
 #[tactic(auto, unfolding(crate::specs::Run::ended_with))]
-fn end_with(tally: Tally, refused: Option<Refused>) -> Line
-    ensures { line_seen result ≡ line_of (ended_with (tally_seen tally) (reply_of refused) (record_of refused)) }
+fn end_with(tally: Tally, reply: u32, at: u64) -> Line
+    ensures { result ≡ line_of (ended_with tally reply at) }
 {
     Line {
         tally: Tally {
             more: false,
-            refused,
+            reply,
+            at,
             ..tally
         },
         length: 0,
@@ -206,28 +210,25 @@ fn end_with(tally: Tally, refused: Option<Refused>) -> Line
 
 // Puts out what the strip hands out, in the other version.
 fn show(tally: Tally, got: Got, out: &mut [u8]) -> Line
-    requires { length (shown (tally_seen tally) (handed got)).line ≤ length out.old }
-    ensures value { line_seen result ≡ line_of (shown (tally_seen tally) (handed got)) }
-    ensures out_after { out.new ≡ line_out (shown (tally_seen tally) (handed got)) out.old }
+    requires { length (shown tally (handed got)).line ≤ length out.old }
+    ensures value { result ≡ line_of (shown tally (handed got)) }
+    ensures out_after { out.new ≡ line_out (shown tally (handed got)) out.old }
 {
     match got {
         Got::More => Line { tally, length: 0 },
         Got::Head(head) => carry_head(tally, head, out),
         Got::Record(figures) => carry_figures(tally, figures, out),
         Got::Gap => carry_gap(tally, out),
-        Got::End => end_with(tally, tally.refused),
-        Got::Refused(refusal) => {
-            let number = tally.number;
-            end_with(tally, Some(Refused { refusal, number }))
-        }
+        Got::End => end_with(tally, tally.reply, tally.at),
+        Got::Refused(reply) => end_with(tally, reply, tally.number),
     }
 }
 
 // The same while the strip goes on; once it has ended nothing is put out.
 fn tell(tally: Tally, got: Got, out: &mut [u8]) -> Line
-    requires { length (told (tally_seen tally) (handed got)).line ≤ length out.old }
-    ensures value { line_seen result ≡ line_of (told (tally_seen tally) (handed got)) }
-    ensures out_after { out.new ≡ line_out (told (tally_seen tally) (handed got)) out.old }
+    requires { length (told tally (handed got)).line ≤ length out.old }
+    ensures value { result ≡ line_of (told tally (handed got)) }
+    ensures out_after { out.new ≡ line_out (told tally (handed got)) out.old }
 {
     if tally.more {
         show(tally, got, out)
@@ -238,7 +239,7 @@ fn tell(tally: Tally, got: Got, out: &mut [u8]) -> Line
 
 // Takes the bytes of a block, one after the other, and keeps nothing of what is put out.
 fn judge_bytes(run: Run, block: &[u8]) -> Run
-    ensures { run_seen result ≡ run_of run.place (bytes_ran run block.now) }
+    ensures { result ≡ run_of run.place (bytes_ran run block.now) }
 {
     let mut reader = run.reader;
     let mut tally = run.tally;
@@ -259,7 +260,7 @@ fn judge_bytes(run: Run, block: &[u8]) -> Run
 // Takes the bytes of a block, one after the other. There is room for what they put out.
 fn take_bytes(run: Run, block: &[u8], out: &mut [u8]) -> Taken
     requires { length (bytes_ran run block.now).lines ≤ length out.old }
-    ensures run_after { run_seen result.run ≡ run_of run.place (bytes_ran run block.now) }
+    ensures run_after { result.run ≡ run_of run.place (bytes_ran run block.now) }
     ensures put_out { result.length ≡ length (bytes_ran run block.now).lines }
     ensures out_after { out.new ≡ (bytes_ran run block.now).lines ++ drop (length (bytes_ran run block.now).lines) out.old }
 {
@@ -283,7 +284,7 @@ fn take_bytes(run: Run, block: &[u8], out: &mut [u8]) -> Taken
 
 // Ends with the strip. Nothing is put out then.
 fn finish(run: Run) -> Run
-    ensures { run_seen result ≡ run_of run.place (ended told run.reader (tally_seen run.tally)) }
+    ensures { result ≡ run_of run.place (ended told run.reader run.tally) }
 {
     let mut scratch = [0u8; HEAD_BYTES];
     let got = run.reader.finish();
@@ -297,7 +298,7 @@ fn finish(run: Run) -> Run
 impl Run {
     // A run that has seen no byte of a strip of this version.
     pub fn new(from: Version) -> Run
-        ensures { run_seen result ≡ new from }
+        ensures { result ≡ new from }
     {
         let to = other(from);
         Run {
@@ -306,7 +307,8 @@ impl Run {
                 to,
                 number: 0,
                 more: true,
-                refused: None,
+                reply: DONE,
+                at: 0,
                 threshold: 0,
                 length: 0,
             },
@@ -318,8 +320,8 @@ impl Run {
     // block is the strip's end. Where the buffer cannot hold HEAD_BYTES for each byte of the
     // block and once more, it is refused with 8, and nothing changes.
     pub fn take(self, block: &[u8], out: &mut [u8]) -> Result<Taken, Refusal>
-        ensures value { taken_seen self result ≡ taken_of (run_seen self) block.now (length out.old) }
-        ensures out_after { out.new ≡ out_of (run_seen self) block.now out.old }
+        ensures value { taken_seen self result ≡ taken_of self block.now (length out.old) }
+        ensures out_after { out.new ≡ out_of self block.now out.old }
     {
         let room = out.len() / HEAD_BYTES;
         let place = self.place.wrapping_add(block.len() as u64);
@@ -351,12 +353,17 @@ fn carry(from: Version, strip: &[u8], out: &mut [u8]) -> Result<usize, Refused>
     let last = finish(judge_bytes(first, strip));
     let seen = last.tally;
     let space = out.len() as u64;
-    if let Some(refused) = seen.refused {
-        return Err(refused);
+    if seen.reply != DONE {
+        return Err(Refused {
+            reply: seen.reply,
+            number: seen.at,
+        });
     }
     if space < seen.length {
-        let refusal = Refusal::Room;
-        return Err(Refused { refusal, number: 0 });
+        return Err(Refused {
+            reply: Refusal::Room.number(),
+            number: 0,
+        });
     }
     let taken = take_bytes(first, strip, out);
     Ok(taken.length)
@@ -413,28 +420,31 @@ pub fn way_of(word: &[u8]) -> Option<Way>
 
 // What is told once a strip was read for the first time, where each read went well or not: how many bytes the carried strip
 // has, or its refusal. Where a read failed, or the strip goes on, nothing is.
-#[tactic(auto, using(units::specs::Laws::Handed::number_not_done), unfolding(crate::specs::Run::told_of))]
+#[tactic(auto, unfolding(crate::specs::Run::told_of))]
 pub fn told_of(run: Run, read: bool) -> Option<Result<u64, Refused>>
-    ensures { told_seen result ≡ told_of (run_seen run) read }
+    ensures { told_seen result ≡ told_of run read }
 {
     let tally = run.tally;
-    if read & !tally.more {
-        match tally.refused {
-            None => Some(Ok(tally.length)),
-            Some(refused) => Some(Err(refused)),
-        }
-    } else {
-        None
+    if !read | tally.more {
+        return None;
     }
+    if tally.reply != DONE {
+        return Some(Err(Refused {
+            reply: tally.reply,
+            number: tally.at,
+        }));
+    }
+    Some(Ok(tally.length))
 }
 
 // Whether two tallies are of the same strip, as far as it was told: both of one that can be said, with the same threshold, as many
 // records, and as many bytes put out.
+#[tactic(auto, unfolding(crate::specs::Run::same))]
 fn same(first: Tally, second: Tally) -> bool
-    ensures { result ≡ same (tally_seen first) (tally_seen second) }
+    ensures { result ≡ same first second }
 {
     let over = !first.more & !second.more;
-    let well = first.refused.is_none() & second.refused.is_none();
+    let well = (first.reply == DONE) & (second.reply == DONE);
     let head = first.threshold == second.threshold;
     let records = (first.number == second.number) & (first.length == second.length);
     over & well & head & records
@@ -443,7 +453,7 @@ fn same(first: Tally, second: Tally) -> bool
 // What is told at the end, after a first and a second reading: whether the second strip is the first, where all went well.
 #[tactic(auto, unfolding(crate::specs::Run::end_of))]
 pub fn end_of(first: Run, second: Run, read: bool, written: bool, closed: bool) -> Option<End>
-    ensures { end_seen result ≡ end_of (run_seen first) (run_seen second) read written closed }
+    ensures { end_seen result ≡ end_of first second read written closed }
 {
     if read & written & closed {
         if same(first.tally, second.tally) {

@@ -1,5 +1,5 @@
 -- `strip_carry::carry` meets its contract: what is tallied of a whole strip is what is told of it. Assumes nothing.
-use Rattle.std.proofs.Common.{◌≡◌, ℕ, ◌^◌, ◌<◌, ◌≤◌, false, cond, eqb, List, ◌++◌, length, drop, sym, refl, ap, ◌∙◌, append-nil, arith, ne_eqb, Option, is_some}
+use Rattle.std.proofs.Common.{◌≡◌, ℕ, ◌^◌, ◌<◌, ◌≤◌, false, cond, eqb, List, ◌++◌, length, drop, sym, refl, ap, ◌∙◌, append-nil, arith, ne_eqb}
 use Rattle.units.specs.Handed.{number_of}
 use Rattle.units.specs.Replies.{done, no_room}
 use Rattle.units.specs.Output.{Put, put}
@@ -10,12 +10,11 @@ use Rattle.strip_reader.specs.Reader.{begun, fresh_in, asked}
 use Rattle.strip_reader.specs.Telling.{ran, ended}
 use Rattle.strip_reader.specs.Laws.Telling.{whole_tells}
 use Rattle.strip_carry.specs.Carry.{Carried, other, judged, carried_bytes, carried_to, carried, carried_out}
-use Rattle.strip_carry.specs.Seen.{run_seen, reply_of, record_of}
-use Rattle.strip_carry.specs.Run.{Tally, Run, at_start, told, new, run_of}
+use Rattle.strip_carry.specs.declared.Tally.{Tally}
+use Rattle.strip_carry.specs.declared.Run.{Run}
+use Rattle.strip_carry.specs.Run.{at_start, told, new, run_of}
 use Rattle.strip_carry.specs.Laws.Room.{ended_empty}
 use Rattle.strip_carry.specs.Laws.Tally.{quiet, carried_number, Tallied, tallied}
-use Rattle.strip_carry.specs.declared.Refused.{Refused}
-use Rattle.strip_carry.proofs.Replies.{not_done}
 use Rattle.strip_carry.proofs.carry.Goals as goal
 
 -- ---- what was seen of the whole strip
@@ -83,36 +82,32 @@ module _ (v : Version) (strip out : List ℕ) where
 pub take_bytes-taken-requires : goal.take_bytes-taken-requires
 take_bytes-taken-requires c =
     let a = c.args in
-    let known = seen a.from a.strip.now (run_seen c.new-first.result) (run_seen c.judge_bytes.result) (run_seen c.finish-last.result) (omega (arith, c.well_formed.1.0.1)) c.new-first.ensures
+    let known = seen a.from a.strip.now c.new-first.result c.judge_bytes.result c.finish-last.result (omega (arith, c.well_formed.1.0.1)) c.new-first.ensures
     c.judge_bytes.ensures c.finish-last.ensures in
-    omega (arith, counted a.from a.strip.now a.out.now known (ap reply_of c.in_default.is), c.if-space-seen.false)
+    omega (arith, counted a.from a.strip.now a.out.now known c.if-seen-ne-DONE.false, c.if-space-seen.false)
 
 pub returns : goal.returns
 returns c =
     let a = c.args in
-    let known = seen a.from a.strip.now (run_seen c.new-first.result) (run_seen c.judge_bytes.result) (run_seen c.finish-last.result) (omega (arith, c.well_formed.1.0.1)) c.new-first.ensures
+    let known = seen a.from a.strip.now c.new-first.result c.judge_bytes.result c.finish-last.result (omega (arith, c.well_formed.1.0.1)) c.new-first.ensures
     c.judge_bytes.ensures c.finish-last.ensures in
     let bytes = c.take_bytes-taken in
-    let both = written a.from a.strip.now a.out.now known (ap reply_of c.in_default.is) c.if-space-seen.false bytes.ensures.put_out bytes.ensures.out_after in
+    let both = written a.from a.strip.now a.out.now known c.if-seen-ne-DONE.false c.if-space-seen.false bytes.ensures.put_out bytes.ensures.out_after in
     record { value = both.0; out_after = both.1 }
 
 pub returns-then-space-seen : goal.returns-then-space-seen
 unfolding number_of
 returns-then-space-seen c =
     let a = c.args in
-    let known = seen a.from a.strip.now (run_seen c.new-first.result) (run_seen c.judge_bytes.result) (run_seen c.finish-last.result) (omega (arith, c.well_formed.1.0.1)) c.new-first.ensures
+    let known = seen a.from a.strip.now c.new-first.result c.judge_bytes.result c.finish-last.result (omega (arith, c.well_formed.1.0.1)) c.new-first.ensures
     c.judge_bytes.ensures c.finish-last.ensures in
-    let both = without_room a.from a.strip.now a.out.now known (ap reply_of c.in_default.is) c.if-space-seen.true in
-    record { value = both.0; out_after = both.1 }
+    let both = without_room a.from a.strip.now a.out.now known c.if-seen-ne-DONE.false c.if-space-seen.true in
+    record { value = rw c.number.ensures both.0; out_after = both.1 }
 
--- what is refused, and where
-refusal_is : {x y : Option Refused} {answer : Carried} → x ≡ y → record { reply = reply_of x; number = record_of x; length = 0 } ≡ answer → record { reply = reply_of y; number = record_of y; length = 0 } ≡ answer
-refusal_is e h = rw (← e) h
-
-pub returns-in-Some : goal.returns-in-Some
-returns-in-Some c =
+pub returns-then-seen-ne-DONE : goal.returns-then-seen-ne-DONE
+returns-then-seen-ne-DONE c =
     let a = c.args in
-    let known = seen a.from a.strip.now (run_seen c.new-first.result) (run_seen c.judge_bytes.result) (run_seen c.finish-last.result) (omega (arith, c.well_formed.1.0.1)) c.new-first.ensures
+    let known = seen a.from a.strip.now c.new-first.result c.judge_bytes.result c.finish-last.result (omega (arith, c.well_formed.1.0.1)) c.new-first.ensures
     c.judge_bytes.ensures c.finish-last.ensures in
-    let both = refused a.from a.strip.now a.out.now known (not_done c.finish-last.result.tally.refused (ap is_some c.in-Some.is)) in
-    record { value = refusal_is c.in-Some.is both.0; out_after = both.1 }
+    let both = refused a.from a.strip.now a.out.now known c.if-seen-ne-DONE.true in
+    record { value = both.0; out_after = both.1 }

@@ -4,8 +4,10 @@ use Rattle.strip_reader.specs.Reader.{Handed, step_of, handed, fed}
 use Rattle.strip_reader.specs.Telling.{Ran, ran}
 use Rattle.strip_reader.specs.declared.Reader.{Reader}
 use Rattle.strip_reader.specs.declared.Step.{Step}
-use Rattle.strip_carry.specs.Run.{Tally, Line, Run, told, longest, line_of, line_out, run_of}
-use Rattle.strip_carry.specs.Seen.{tally_seen, line_seen}
+use Rattle.strip_carry.specs.declared.Tally.{Tally}
+use Rattle.strip_carry.specs.declared.Line.{Line}
+use Rattle.strip_carry.specs.declared.Run.{Run}
+use Rattle.strip_carry.specs.Run.{told, longest, line_of, line_out, run_of}
 use Rattle.strip_carry.specs.Laws.Room.{told_most}
 use Rattle.strip_carry.proofs.Bytes.{next_byte}
 use Rattle.strip_carry.proofs.judge_bytes.Goals as goal
@@ -20,7 +22,7 @@ slice_bounds-tell-end c = sym c.loop-byte.invariant.room
 pub tell-line-requires : goal.tell-line-requires
 tell-line-requires c =
     let l = c.loop-byte in
-    omega (arith, told_most (tally_seen l.tally) (handed c.take-step.result.got), l.invariant.room)
+    omega (arith, told_most l.tally (handed c.take-step.result.got), l.invariant.room)
 
 -- a line leaves the buffer as long as it was
 as_long : (t : Tally) (h : Handed) (scratch scratch' : List ℕ) → length scratch ≡ longest → scratch' ≡ line_out (told t h) scratch → length scratch' ≡ length scratch
@@ -44,8 +46,8 @@ loop-byte-preserved c =
     let tell = c.tell-line in
     let step = c.take-step in
     let inside = c.loop-byte-test.true in
-    further a.block.now a.run.reader (tally_seen a.run.tally) l.reader (tally_seen l.tally) l.scratch _ l.byte-index step.result (line_seen tell.result) l.invariant inside step.ensures tell.ensures.value
-    (as_long (tally_seen l.tally) (handed step.result.got) l.scratch _ l.invariant.room tell.ensures.out_after)
+    further a.block.now a.run.reader a.run.tally l.reader l.tally l.scratch _ l.byte-index step.result tell.result l.invariant inside step.ensures tell.ensures.value
+    (as_long l.tally (handed step.result.got) l.scratch _ l.invariant.room tell.ensures.out_after)
 
 -- all bytes
 whole-block : (block : List ℕ) (r₀ : Reader) (t₀ : Tally) (r : Reader) (t : Tally) (scratch : List ℕ) (i place : ℕ) → Going block r₀ t₀ r t scratch i → length block ≤ i
@@ -61,4 +63,4 @@ pub returns : goal.returns
 returns c =
     let l = c.loop-byte in
     let a = c.args in
-    whole-block a.block.now a.run.reader (tally_seen a.run.tally) l.reader (tally_seen l.tally) l.scratch l.byte-index a.run.place l.invariant c.loop-byte-test.false
+    whole-block a.block.now a.run.reader a.run.tally l.reader l.tally l.scratch l.byte-index a.run.place l.invariant c.loop-byte-test.false

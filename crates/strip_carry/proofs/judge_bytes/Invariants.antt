@@ -2,8 +2,8 @@
 use Rattle.std.proofs.Common.{◌≡◌, ℕ, List, length, drop}
 use Rattle.strip_reader.specs.Telling.{ran}
 use Rattle.strip_reader.specs.declared.Reader.{Reader}
-use Rattle.strip_carry.specs.Run.{Tally, told, longest}
-use Rattle.strip_carry.specs.Seen.{tally_seen}
+use Rattle.strip_carry.specs.declared.Tally.{Tally}
+use Rattle.strip_carry.specs.Run.{told, longest}
 use Rattle.strip_carry.proofs.judge_bytes.Given as goal
 
 -- how far a block is taken
@@ -13,4 +13,4 @@ pub record Going (block : List ℕ) (r₀ : Reader) (t₀ : Tally) (r : Reader) 
   pub room : length scratch ≡ longest
 
 abbrev pub invariant-loop-byte : goal.invariant-loop-byte
-invariant-loop-byte l = Going l.block l.initial.reader (tally_seen l.initial.tally) l.reader (tally_seen l.tally) l.scratch l.byte-index
+invariant-loop-byte l = Going l.block l.initial.reader l.initial.tally l.reader l.tally l.scratch l.byte-index

@@ -3,8 +3,9 @@ use Rattle.std.proofs.Common.{◌≡◌, ℕ, ◌≤◌, List, length, sym, refl
 use Rattle.strip_reader.specs.Reader.{handed}
 use Rattle.strip_reader.specs.declared.Got.{Got}
 use Rattle.units.specs.Handed.{number_of}
-use Rattle.strip_carry.specs.Run.{Tally, Line, shown}
-use Rattle.strip_carry.specs.Seen.{tally_seen}
+use Rattle.strip_carry.specs.declared.Tally.{Tally}
+use Rattle.strip_carry.specs.declared.Line.{Line}
+use Rattle.strip_carry.specs.Run.{shown}
 use Rattle.strip_carry.proofs.Lines.{Prints, moved}
 use Rattle.strip_carry.proofs.show.Goals as goal
 
@@ -15,17 +16,17 @@ room_of t g h out e l = subst (λ (x : Got). length (shown t (handed x)).line �
 pub carry_head-requires : goal.carry_head-requires
 unfolding handed
 carry_head-requires c =
-    room_of (tally_seen c.args.tally) _ _ c.args.out.now c.in-Head.is c.requires
+    room_of c.args.tally _ _ c.args.out.now c.in-Head.is c.requires
 
 pub carry_figures-requires : goal.carry_figures-requires
 unfolding handed
 carry_figures-requires c =
-    room_of (tally_seen c.args.tally) _ _ c.args.out.now c.in-Record.is c.requires
+    room_of c.args.tally _ _ c.args.out.now c.in-Record.is c.requires
 
 pub carry_gap-requires : goal.carry_gap-requires
 unfolding handed
 carry_gap-requires c =
-    room_of (tally_seen c.args.tally) _ _ c.args.out.now c.in-Gap.is c.requires
+    room_of c.args.tally _ _ c.args.out.now c.in-Gap.is c.requires
 
 -- what a case puts out, what was handed out puts out
 of-case : (t : Tally) (g h : Got) (out : List ℕ) (line : Line) (end : List ℕ) → g ≡ h → Prints (shown t (handed h)) out line end → Prints (shown t (handed g)) out line end
@@ -34,7 +35,7 @@ of-case t g h out line end e p = moved (shown t (handed h)) (shown t (handed g))
 pub returns-in-More : goal.returns-in-More
 unfolding shown handed
 returns-in-More c =
-    let both = of-case (tally_seen c.args.tally) _ _ c.args.out.now _ _ c.in-More.is (refl, refl) in
+    let both = of-case c.args.tally _ _ c.args.out.now _ _ c.in-More.is (refl, refl) in
     record { value = both.0; out_after = both.1 }
 
 pub returns-in-Head : goal.returns-in-Head
@@ -42,7 +43,7 @@ unfolding handed
 returns-in-Head c =
     let a = c.args in
     let line = c.carry_head in
-    let both = of-case (tally_seen a.tally) _ _ a.out.now _ _ c.in-Head.is (line.ensures.value, line.ensures.out_after) in
+    let both = of-case a.tally _ _ a.out.now _ _ c.in-Head.is (line.ensures.value, line.ensures.out_after) in
     record { value = both.0; out_after = both.1 }
 
 pub returns-in-Record : goal.returns-in-Record
@@ -50,7 +51,7 @@ unfolding handed
 returns-in-Record c =
     let a = c.args in
     let line = c.carry_figures in
-    let both = of-case (tally_seen a.tally) _ _ a.out.now _ _ c.in-Record.is (line.ensures.value, line.ensures.out_after) in
+    let both = of-case a.tally _ _ a.out.now _ _ c.in-Record.is (line.ensures.value, line.ensures.out_after) in
     record { value = both.0; out_after = both.1 }
 
 pub returns-in-Gap : goal.returns-in-Gap
@@ -58,19 +59,19 @@ unfolding handed
 returns-in-Gap c =
     let a = c.args in
     let line = c.carry_gap in
-    let both = of-case (tally_seen a.tally) _ _ a.out.now _ _ c.in-Gap.is (line.ensures.value, line.ensures.out_after) in
+    let both = of-case a.tally _ _ a.out.now _ _ c.in-Gap.is (line.ensures.value, line.ensures.out_after) in
     record { value = both.0; out_after = both.1 }
 
 pub returns-in-End : goal.returns-in-End
 unfolding shown handed
 returns-in-End c =
     let a = c.args in
-    let both = of-case (tally_seen a.tally) _ _ a.out.now _ _ c.in-End.is (c.end_with.ensures, refl) in
+    let both = of-case a.tally _ _ a.out.now _ _ c.in-End.is (c.end_with.ensures, refl) in
     record { value = both.0; out_after = both.1 }
 
 pub returns-in-Refused : goal.returns-in-Refused
 unfolding shown handed number_of
 returns-in-Refused c =
     let a = c.args in
-    let both = of-case (tally_seen a.tally) _ _ a.out.now _ _ c.in-Refused.is (c.end_with-in-Refused.ensures, refl) in
+    let both = of-case a.tally _ _ a.out.now _ _ c.in-Refused.is (c.end_with-in-Refused.ensures, refl) in
     record { value = both.0; out_after = both.1 }

@@ -6,8 +6,10 @@ use Rattle.strip_reader.specs.Reader.{Handed, step_of, handed, fed}
 use Rattle.strip_reader.specs.Telling.{Ran, ran}
 use Rattle.strip_reader.specs.declared.Reader.{Reader}
 use Rattle.strip_reader.specs.declared.Step.{Step}
-use Rattle.strip_carry.specs.Run.{Tally, Line, Run, told, line_of, line_out, run_of}
-use Rattle.strip_carry.specs.Seen.{tally_seen, line_seen}
+use Rattle.strip_carry.specs.declared.Tally.{Tally}
+use Rattle.strip_carry.specs.declared.Line.{Line}
+use Rattle.strip_carry.specs.declared.Run.{Run}
+use Rattle.strip_carry.specs.Run.{told, line_of, line_out, run_of}
 use Rattle.strip_carry.proofs.Bytes.{next_byte}
 use Rattle.strip_carry.proofs.take_bytes.Goals as goal
 use Rattle.strip_carry.proofs.take_bytes.Invariants.{Going}
@@ -57,7 +59,7 @@ tell-line-requires c =
     let l = c.loop-byte in
     let a = c.args in
     let step = c.take-step in
-    let space = room a.block.now a.out.now a.run.reader (tally_seen a.run.tally) l.out l.reader (tally_seen l.tally) l.length l.byte-index step.result l.invariant
+    let space = room a.block.now a.out.now a.run.reader a.run.tally l.out l.reader l.tally l.length l.byte-index step.result l.invariant
     c.loop-byte-test.true c.requires step.ensures in
     rw (part-whole l.out l.length l.invariant.most, length-drop) (omega arith)
 
@@ -71,9 +73,9 @@ overflow_add-length c =
     let a = c.args in
     let tell = c.tell-line in
     let step = c.take-step in
-    let space = room a.block.now a.out.now a.run.reader (tally_seen a.run.tally) l.out l.reader (tally_seen l.tally) l.length l.byte-index step.result l.invariant
+    let space = room a.block.now a.out.now a.run.reader a.run.tally l.out l.reader l.tally l.length l.byte-index step.result l.invariant
     c.loop-byte-test.true c.requires step.ensures in
-    let few = long (tally_seen l.tally) (handed step.result.got) (line_seen tell.result) tell.ensures.value in
+    let few = long l.tally (handed step.result.got) tell.result tell.ensures.value in
     omega (arith, l.invariant.same, c.well_formed.1.1.0.0)
 
 -- one byte further
@@ -116,7 +118,7 @@ loop-byte-preserved c =
     let tell = c.tell-line in
     let step = c.take-step in
     let inside = c.loop-byte-test.true in
-    further a.block.now a.out.now a.run.reader (tally_seen a.run.tally) l.out l.reader (tally_seen l.tally) l.length l.byte-index step.result (line_seen tell.result) _ l.invariant inside c.requires step.ensures
+    further a.block.now a.out.now a.run.reader a.run.tally l.out l.reader l.tally l.length l.byte-index step.result tell.result _ l.invariant inside c.requires step.ensures
     tell.ensures.value tell.ensures.out_after
 
 pub shape_of-out : goal.shape_of-out
@@ -143,5 +145,5 @@ pub returns : goal.returns
 returns c =
     let l = c.loop-byte in
     let a = c.args in
-    let both = whole-block a.block.now a.out.now a.run.reader (tally_seen a.run.tally) l.out l.reader (tally_seen l.tally) l.length l.byte-index a.run.place l.invariant c.loop-byte-test.false in
+    let both = whole-block a.block.now a.out.now a.run.reader a.run.tally l.out l.reader l.tally l.length l.byte-index a.run.place l.invariant c.loop-byte-test.false in
     record { run_after = both.0; put_out = both.1; out_after = both.2 }

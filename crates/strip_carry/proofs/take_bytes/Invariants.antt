@@ -3,8 +3,8 @@
 use Rattle.std.proofs.Common.{◌≡◌, ℕ, ◌≤◌, List, ◌++◌, length, take, drop}
 use Rattle.strip_reader.specs.Telling.{ran}
 use Rattle.strip_reader.specs.declared.Reader.{Reader}
-use Rattle.strip_carry.specs.Run.{Tally, told}
-use Rattle.strip_carry.specs.Seen.{tally_seen}
+use Rattle.strip_carry.specs.declared.Tally.{Tally}
+use Rattle.strip_carry.specs.Run.{told}
 use Rattle.strip_carry.proofs.take_bytes.Given as goal
 
 -- how far a block is taken
@@ -17,4 +17,4 @@ pub record Going (block out₀ : List ℕ) (r₀ : Reader) (t₀ : Tally) (out :
   pub most : n ≤ length out
 
 abbrev pub invariant-loop-byte : goal.invariant-loop-byte
-invariant-loop-byte l = Going l.block l.initial.out l.initial.reader (tally_seen l.initial.tally) l.out l.reader (tally_seen l.tally) l.length l.byte-index
+invariant-loop-byte l = Going l.block l.initial.out l.initial.reader l.initial.tally l.out l.reader l.tally l.length l.byte-index

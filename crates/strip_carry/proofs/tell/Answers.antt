@@ -2,8 +2,8 @@
 use Rattle.std.proofs.Common.{◌≡◌, ℕ, ◌≤◌, true, false, List, length, sym, refl, subst}
 use Rattle.strip_reader.specs.Reader.{Handed, handed}
 use Rattle.strip_reader.specs.Telling.{Shown, unchanged}
-use Rattle.strip_carry.specs.Run.{Tally, shown, told}
-use Rattle.strip_carry.specs.Seen.{tally_seen}
+use Rattle.strip_carry.specs.declared.Tally.{Tally}
+use Rattle.strip_carry.specs.Run.{shown, told}
 use Rattle.strip_carry.proofs.Lines.{moved}
 use Rattle.strip_carry.proofs.tell.Goals as goal
 
@@ -22,17 +22,17 @@ room_of s t out e l = subst (λ (x : Shown Tally). length x.line ≤ length out)
 pub show-requires : goal.show-requires
 show-requires c =
     let a = c.args in
-    room_of _ _ a.out.now (going (tally_seen a.tally) (handed a.got) c.if-tally.true) c.requires
+    room_of _ _ a.out.now (going a.tally (handed a.got) c.if-tally.true) c.requires
 
 pub returns-then-tally : goal.returns-then-tally
 returns-then-tally c =
     let a = c.args in
     let line = c.show in
-    let both = moved _ _ a.out.now _ _ (going (tally_seen a.tally) (handed a.got) c.if-tally.true) (line.ensures.value, line.ensures.out_after) in
+    let both = moved _ _ a.out.now _ _ (going a.tally (handed a.got) c.if-tally.true) (line.ensures.value, line.ensures.out_after) in
     record { value = both.0; out_after = both.1 }
 
 pub returns-else-tally : goal.returns-else-tally
 returns-else-tally c =
     let a = c.args in
-    let both = moved _ _ a.out.now _ _ (over (tally_seen a.tally) (handed a.got) c.if-tally.false) (refl, refl) in
+    let both = moved _ _ a.out.now _ _ (over a.tally (handed a.got) c.if-tally.false) (refl, refl) in
     record { value = both.0; out_after = both.1 }

@@ -15,8 +15,10 @@ use Rattle.strip_reader.specs.Laws.Whole.{any_cutting}
 use Rattle.strip_reader.specs.Laws.Telling.{blocks_tell, blocks_desk}
 use Rattle.strip_reader.specs.declared.Reader.{Reader}
 use Rattle.strip_carry.specs.Carry.{other, judged, carried_bytes}
-use Rattle.strip_carry.specs.Run.{Tally, Run, Size, Refused, Well, at_start, told, told_of, same, end_of, new, taken_run, taken_lines, taken_blocks, run_after}
+use Rattle.strip_carry.specs.Run.{Size, Refused, Well, at_start, told, told_of, same, end_of, new, taken_run, taken_lines, taken_blocks, run_after}
 use Rattle.strip_carry.specs.Laws.Tally.{quiet, judged_read, Tallied, tallied}
+use Rattle.strip_carry.specs.declared.Tally.{Tally}
+use Rattle.strip_carry.specs.declared.Run.{Run}
 
 -- ---- a run is its reader and its tally, and how many bytes came
 lines_are : (r : Run) (blocks : List (List ℕ)) → taken_blocks r blocks ≡ Telling.taken_blocks told r.reader r.tally blocks

@@ -10,11 +10,13 @@ use Rattle.strip_format.specs.Laws.Whole.{entry_length}
 use Rattle.strip_format.specs.declared.Head.{Head}
 use Rattle.strip_format.specs.declared.Version.{Version}
 use Rattle.strip_format.specs.declared.Version.TheVariants.{One, Two}
-use Rattle.strip_reader.specs.Reader.{Handed, more, head, entry, end, refused, is_records, is_over, passes, fed, finished}
+use Rattle.strip_reader.specs.Reader.{Handed, more, head, entry, end, refused, at_records, over, passes, fed, finished}
 use Rattle.strip_reader.specs.Telling.{Shown, unchanged, ran, ended, taken}
 use Rattle.strip_reader.specs.declared.Reader.{Reader}
 use Rattle.strip_carry.specs.Carry.{says_head, says_entry}
-use Rattle.strip_carry.specs.Run.{Tally, Run, Taken, said, not_said, passed_by, next, with_threshold, ended_with, shown, told, longest, taken_run, taken_lines, taken_of}
+use Rattle.strip_carry.specs.Run.{Taken, said, not_said, passed_by, next, with_threshold, ended_with, shown, told, longest, taken_run, taken_lines, taken_of}
+use Rattle.strip_carry.specs.declared.Run.{Run}
+use Rattle.strip_carry.specs.declared.Tally.{Tally}
 
 -- ---- a line
 -- what is put out has room
@@ -83,7 +85,7 @@ refused_empty t reply = unless_over t.more (shown t (refused reply)) t refl
 -- Nothing is put out at the end.
 pub finished_empty : (t : Tally) (r : Reader) → (told t (finished r)).line ≡ []
 unfolding finished
-finished_empty t r = go (passes r) (is_over r.stage) (is_records r.stage && r.count == 0)
+finished_empty t r = go (passes r) (r.stage == over) (r.stage == at_records && r.count == 0)
   where
     go : (a b c : Bool) → (told t (cond a (cond b more (cond c end (refused cut))) (refused bad_setting))).line ≡ []
     go true true c = more_empty t

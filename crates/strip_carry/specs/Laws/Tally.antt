@@ -20,7 +20,8 @@ use Rattle.strip_reader.specs.Reader.{Handed, more, head, entry, end, refused}
 use Rattle.strip_reader.specs.Feeding.{ending, entries_then, handed_by}
 use Rattle.strip_reader.specs.Telling.{Shown, unchanged, lines_of, desk_of}
 use Rattle.strip_carry.specs.Carry.{other, says_head, says_entry, Verdict, entries_said, strip_said, judged, carried_bytes}
-use Rattle.strip_carry.specs.Run.{Tally, after, at_start, said, not_said, passed_by, next, with_threshold, ended_with, shown, told}
+use Rattle.strip_carry.specs.Run.{after, at_start, said, not_said, passed_by, next, with_threshold, ended_with, shown, told}
+use Rattle.strip_carry.specs.declared.Tally.{Tally}
 
 -- Where nothing comes out of the reader nothing changes.
 pub quiet : (t : Tally) → told t more ≡ unchanged t

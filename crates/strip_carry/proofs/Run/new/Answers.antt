@@ -4,7 +4,8 @@ use Rattle.strip_format.specs.declared.Version.{Version}
 use Rattle.strip_reader.specs.Reader.{fresh_in}
 use Rattle.strip_reader.specs.declared.Reader.{Reader}
 use Rattle.strip_carry.specs.Carry.{other}
-use Rattle.strip_carry.specs.Run.{Run, at_start, new}
+use Rattle.strip_carry.specs.declared.Run.{Run}
+use Rattle.strip_carry.specs.Run.{at_start, new}
 use Rattle.strip_carry.proofs.Run.new.Goals as goal
 
 new_is : (v to : Version) (r : Reader) → to ≡ other v → r ≡ fresh_in v

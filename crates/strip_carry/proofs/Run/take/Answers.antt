@@ -3,8 +3,9 @@ use Rattle.std.proofs.Common.{◌≡◌, ℕ, ◌/◌, ◌<◌, ◌≤◌, List,
 use borrow.Author.Tests.{eqb-false}
 use Rattle.units.specs.Handed.{number_of}
 use Rattle.strip_reader.specs.Telling.{Ran, ran, taken}
-use Rattle.strip_carry.specs.Run.{Tally, Run, Taken, after, told, longest, run_of, taken_run, taken_lines, taken_of, out_of}
-use Rattle.strip_carry.specs.Seen.{tally_seen, run_seen}
+use Rattle.strip_carry.specs.declared.Tally.{Tally}
+use Rattle.strip_carry.specs.declared.Run.{Run}
+use Rattle.strip_carry.specs.Run.{Taken, after, told, longest, run_of, taken_run, taken_lines, taken_of, out_of}
 use Rattle.strip_carry.specs.Laws.Room.{ended_empty, ran_fits}
 use Rattle.strip_carry.proofs.Bytes.{at_end_lem, in_bytes, taken_run_lem}
 use Rattle.strip_carry.proofs.Run.take.Goals as goal
@@ -12,7 +13,7 @@ use Rattle.strip_carry.proofs.Run.take.Goals as goal
 pub take_bytes-taken-requires : goal.take_bytes-taken-requires
 take_bytes-taken-requires c =
     let a = c.args in
-    ran_fits a.self.reader (tally_seen a.self.tally) a.block.now (length a.out.now) c.if-room-block.false
+    ran_fits a.self.reader a.self.tally a.block.now (length a.out.now) c.if-room-block.false
 
 -- what a block puts out
 lines_are : (r : Run) (block : List ℕ) {x : Ran Tally} → taken told r.reader r.tally block ≡ x → taken_lines r block ≡ x.lines
@@ -29,7 +30,7 @@ answer-is r block out l e f m o = (rw (lt-ltb (length block) (length out / longe
 pub returns-then-is_empty : goal.returns-then-is_empty
 returns-then-is_empty c =
     let a = c.args in
-    let r = run_seen a.self in
+    let r = a.self in
     let block = a.block.now in
     let none = eqb-true (length block) 0 (sym c.is_empty.ensures ∙ c.if-is_empty.true) in
     let e = at_end_lem r block none in
@@ -53,7 +54,7 @@ returns c =
     let block = a.block.now in
     let bytes = c.take_bytes-taken in
     let some = eqb-false (length block) 0 (sym c.is_empty.ensures ∙ c.if-is_empty.false) in
-    let both = bytes-taken (run_seen a.self) block a.out.now c.if-room-block.false some bytes.ensures.run_after bytes.ensures.put_out refl refl bytes.ensures.out_after in
+    let both = bytes-taken a.self block a.out.now c.if-room-block.false some bytes.ensures.run_after bytes.ensures.put_out refl refl bytes.ensures.out_after in
     record { value = both.0; out_after = both.1 }
 
 -- a buffer without room
@@ -66,5 +67,5 @@ pub returns-then-room-block : goal.returns-then-room-block
 unfolding number_of
 returns-then-room-block c =
     let a = c.args in
-    let both = no_room (run_seen a.self) a.block.now a.out.now c.if-room-block.true in
+    let both = no_room a.self a.block.now a.out.now c.if-room-block.true in
     record { value = both.0; out_after = both.1 }
