@@ -9,96 +9,72 @@
 // frame ended with, the one to end the next frame with, the samples of a channel and 1 over them);
 // whether it passes; and get_gain_factor (a reply and the factor).
 
-use crate::figures::{ASKED, Desk, Given, Reply};
-use crate::{estimator, figures, numbers};
-use gain_applier::{Applier, Next};
-use units::replies::DONE;
+use crate::figures::{Given, Sheet};
+use crate::part::{Asked, DONE, Part, loud, quiet, settled};
+use gain_applier::Applier;
 
-// The part's number, how many figures its state has and how many are shown of it, and where these stand and
-// end on the desk.
-pub const PART: u32 = estimator::PART + 1;
-
-pub const STATE: usize = 5;
-
-const SHOWN: usize = STATE + 3;
-
-pub const FROM: usize = estimator::END;
-
-pub const END: usize = FROM + SHOWN;
-
-// The names, as `lines::seek` takes them: a letter, how many figures the name takes, and the name.
-pub const NAMES: [u8; 65] = *b"n2=applier.new s*=applier.set f1=applier.factor a2+applier.apply ";
-
-// The letters.
-const NEW: u8 = b'n';
-
-const SET: u8 = b's';
-
-const FACTOR: u8 = b'f';
-
-const APPLY: u8 = b'a';
-
-// The applier whose figures stand at a place.
-pub(crate) fn read(all: &Desk, from: usize) -> Applier {
-    Applier {
-        clip: figures::flag(all, from, 0),
-        last: figures::float(all, from, 1),
-        current: figures::float(all, from, 2),
-        samples: numbers::signed32(figures::word(all, from, 3)),
-        inverse: figures::float(all, from, 4),
-    }
+#[derive(Clone, Copy)]
+pub enum Question {
+    New,
+    Set,
+    Factor,
+    Apply,
 }
 
-// The figures that are shown of an applier.
-fn shown(applier: Applier) -> [u32; SHOWN] {
-    let told = applier.get_gain_factor();
-    [
-        numbers::flag(applier.clip),
-        bits::bits_of(applier.last),
-        bits::bits_of(applier.current),
-        numbers::unsigned32(applier.samples),
-        bits::bits_of(applier.inverse),
-        numbers::flag(applier.passes()),
-        told.reply,
-        bits::bits_of(told.factor),
-    ]
+// Puts an applier's state.
+pub(crate) fn put(applier: Applier, sheet: &mut Sheet) {
+    sheet.flag(applier.clip);
+    sheet.float(applier.last);
+    sheet.float(applier.current);
+    sheet.word(applier.samples.cast_unsigned());
+    sheet.float(applier.inverse);
 }
 
-// Leaves an applier's figures on the desk.
-fn leave(desk: &mut Desk, applier: Applier) {
-    let all = shown(applier);
-    figures::put(desk, FROM, &all);
-}
+impl Part for Applier {
+    type Question = Question;
 
-// The reply to a question about an applier, and the applier after it.
-fn next(word: u8, applier: Applier, given: Given, frame: &mut [f32]) -> Next {
-    if word == NEW {
-        Applier::new(given.first != 0, bits::float_of(given.second))
-    } else if word == FACTOR {
-        applier.set_gain_factor(bits::float_of(given.first))
-    } else if word == APPLY {
-        applier.apply_gain(
-            frame,
-            figures::wide(given.first),
-            figures::wide(given.second),
-        )
-    } else {
-        Next {
-            reply: DONE,
-            applier,
+    const STATE: usize = 5;
+
+    fn named(name: &[u8]) -> Option<Asked<Question>> {
+        match name {
+            b".new" => quiet(Question::New, 2),
+            b".set" => quiet(Question::Set, Applier::STATE),
+            b".factor" => quiet(Question::Factor, 1),
+            b".apply" => loud(Question::Apply, 2),
+            _ => None,
         }
     }
-}
 
-// Answers the question that lies on the desk.
-pub(crate) fn answer(word: u8, given: Given, desk: &mut Desk, frame: &mut [f32]) -> Reply {
-    let before = read(desk, numbers::pick(word == SET, ASKED, FROM));
-    let a = next(word, before, given, frame);
-    leave(desk, a.applier);
-    Reply {
-        number: a.reply,
-        from: FROM,
-        size: SHOWN,
-        told: 0,
+    fn read(given: &mut Given<'_>) -> Applier {
+        Applier {
+            clip: given.flag(),
+            last: given.float(),
+            current: given.float(),
+            samples: given.word().cast_signed(),
+            inverse: given.float(),
+        }
+    }
+
+    fn show(self, sheet: &mut Sheet) {
+        put(self, sheet);
+        sheet.flag(self.passes());
+        let (reply, factor) = settled(0.0, self.get_gain_factor());
+        sheet.word(reply);
+        sheet.float(factor);
+    }
+
+    fn next(
+        self,
+        question: Question,
+        given: &mut Given<'_>,
+        frame: &mut [f32],
+        _told: &mut Sheet,
+    ) -> (u32, Applier) {
+        match question {
+            Question::New => { settled(Applier::none(), Applier::new(given.flag(), given.float())) }
+            Question::Set => (DONE, Applier::read(given)),
+            Question::Factor => settled(self, self.set_gain_factor(given.float())),
+            Question::Apply => settled(self, self.apply_gain(frame, given.count(), given.count())),
+        }
     }
 }

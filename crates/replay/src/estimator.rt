@@ -9,111 +9,83 @@
 // Each answer shows the state, which is three figures (the level, the samples of a channel and those of
 // a sub-frame); whether it passes; and last_audio_level (a reply and the level).
 
-use crate::figures::{ASKED, Desk, Given, Reply, TOLD};
-use crate::{curve, figures, numbers};
-use fixed_digital_level_estimator::{Estimator, Levels, Next};
+use crate::figures::{Given, Sheet};
+use crate::part::{Asked, DONE, Part, loud, quiet, settled};
+use fixed_digital_level_estimator::{Estimator, Levels};
 use units::kinds::LinearS16;
-use units::replies::DONE;
 
-// The part's number, how many figures its state has and how many are shown of it, and where these stand and
-// end on the desk.
-pub const PART: u32 = curve::PART + 1;
+#[derive(Clone, Copy)]
+pub enum Question {
+    New,
+    Set,
+    Samples,
+    Reset,
+    Level,
+}
 
-pub const STATE: usize = 3;
+// Puts an estimator's state.
+pub(crate) fn put(estimator: Estimator, sheet: &mut Sheet) {
+    sheet.float(estimator.level);
+    sheet.count(estimator.samples);
+    sheet.count(estimator.part);
+}
 
-const SHOWN: usize = STATE + 3;
+impl Part for Estimator {
+    type Question = Question;
 
-pub const FROM: usize = curve::END;
+    const STATE: usize = 3;
 
-pub const END: usize = FROM + SHOWN;
-
-// How many sub-frames a frame has.
-const SUB_FRAMES: usize = 20;
-
-// The names, as `lines::seek` takes them: a letter, how many figures the name takes, and the name.
-pub const NAMES: [u8; 93] =
-    *b"n1=estimator.new s*=estimator.set c1=estimator.samples r0=estimator.reset l2+estimator.level ";
-
-// The letters.
-const NEW: u8 = b'n';
-
-const SET: u8 = b's';
-
-const SAMPLES: u8 = b'c';
-
-const RESET: u8 = b'r';
-
-const LEVEL: u8 = b'l';
-
-// The estimator whose figures stand at a place.
-pub(crate) fn read(all: &Desk, from: usize) -> Estimator {
-    Estimator {
-        level: figures::float(all, from, 0),
-        samples: figures::count(all, from, 1),
-        part: figures::count(all, from, 2),
+    fn named(name: &[u8]) -> Option<Asked<Question>> {
+        match name {
+            b".new" => quiet(Question::New, 1),
+            b".set" => quiet(Question::Set, Estimator::STATE),
+            b".samples" => quiet(Question::Samples, 1),
+            b".reset" => quiet(Question::Reset, 0),
+            b".level" => loud(Question::Level, 2),
+            _ => None,
+        }
     }
-}
 
-// The figures that are shown of an estimator.
-fn shown(estimator: Estimator) -> [u32; SHOWN] {
-    let heard = estimator.last_audio_level();
-    [
-        bits::bits_of(estimator.level),
-        numbers::narrow(estimator.samples),
-        numbers::narrow(estimator.part),
-        numbers::flag(estimator.passes()),
-        heard.reply,
-        bits::bits_of(heard.level.0),
-    ]
-}
-
-// Stores the figures that are shown of an estimator, from a place on.
-pub(crate) fn put(desk: &mut Desk, from: usize, estimator: Estimator) {
-    let all = shown(estimator);
-    figures::put(desk, from, &all);
-}
-
-// What is answered where no envelope is asked for.
-fn still(a: Next) -> Levels {
-    let estimator = a.estimator;
-    let envelope = [LinearS16(0.0); SUB_FRAMES];
-    Levels {
-        reply: a.reply,
-        estimator,
-        envelope,
+    fn read(given: &mut Given<'_>) -> Estimator {
+        Estimator {
+            level: given.float(),
+            samples: given.count(),
+            part: given.count(),
+        }
     }
-}
 
-// The reply to a question about an estimator, the estimator after it, and the envelope.
-fn next(word: u8, estimator: Estimator, given: Given, frame: &[f32]) -> Levels {
-    let first = figures::wide(given.first);
-    if word == NEW {
-        still(Estimator::new(first))
-    } else if word == SAMPLES {
-        still(estimator.set_samples_per_channel(first))
-    } else if word == RESET {
-        still(estimator.reset())
-    } else if word == LEVEL {
-        estimator.compute_level(frame, first, figures::wide(given.second))
-    } else {
-        still(Next {
-            reply: DONE,
-            estimator,
-        })
+    fn show(self, sheet: &mut Sheet) {
+        put(self, sheet);
+        sheet.flag(self.passes());
+        let (reply, level) = settled(LinearS16(0.0), self.last_audio_level());
+        sheet.word(reply);
+        sheet.float(level.0);
     }
-}
 
-// Answers the question that lies on the desk. An envelope stands there whatever is asked.
-pub(crate) fn answer(word: u8, given: Given, desk: &mut Desk, frame: &[f32]) -> Reply {
-    let before = read(desk, numbers::pick(word == SET, ASKED, FROM));
-    let a = next(word, before, given, frame);
-    let envelope = a.envelope;
-    figures::put_levels(desk, TOLD, envelope);
-    put(desk, FROM, a.estimator);
-    Reply {
-        number: a.reply,
-        from: FROM,
-        size: SHOWN,
-        told: numbers::pick(word == LEVEL, SUB_FRAMES, 0),
+    fn next(
+        self,
+        question: Question,
+        given: &mut Given<'_>,
+        frame: &mut [f32],
+        told: &mut Sheet,
+    ) -> (u32, Estimator) {
+        match question {
+            Question::New => settled(Estimator::none(), Estimator::new(given.count())),
+            Question::Set => (DONE, Estimator::read(given)),
+            Question::Samples => settled(self, self.set_samples_per_channel(given.count())),
+            Question::Reset => settled(self, self.reset()),
+            Question::Level => {
+                let still = Levels {
+                    estimator: self,
+                    envelope: [LinearS16(0.0); 20],
+                };
+                let found = self.compute_level(frame, given.count(), given.count());
+                let (reply, levels) = settled(still, found);
+                for level in levels.envelope {
+                    told.float(level.0);
+                }
+                (reply, levels.estimator)
+            }
+        }
     }
 }

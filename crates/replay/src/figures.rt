@@ -1,140 +1,148 @@
-// The desk: figures in a row. First come those of the question, then the results, and then each part's, as
-// they are shown in an answer. Every function takes any place: one that lies outside holds 0, and nothing is
-// stored there.
-//
-// No number here or in a part's file depends on another that is written by hand: a part's figures begin where
-// those of the part before it end, and the desk ends with the last part's.
+// The figures of a question, and those of an answer, in a row. A figure is a number of 32 bits: a float is
+// its bits, a bool is 0 or 1, and a number of 64 bits is two figures, the higher half first.
 
-use crate::{numbers, whole};
-use std::num::wrapping_add_usize;
-use units::kinds::LinearS16;
+use arrayvec::ArrayVec;
 
-// Where the figures of the question stand, and how many there can be but for samples.
-pub const ASKED: usize = 0;
+// A figure as it stands in a line: a space and eight hexadecimal digits.
+type Spelled = [u8; 9];
 
-pub const MOST_ASKED: usize = 192;
+// The number of a figure: none where it is not spelled so.
+fn number(figure: &Spelled) -> Option<u32> {
+    if figure[0] == b' ' {
+        words::read(figure, 1)
+    } else {
+        None
+    }
+}
 
-// Where the results stand, and how many there can be.
-pub const TOLD: usize = ASKED + MOST_ASKED;
-
-const MOST_TOLD: usize = 64;
-
-// Where the first part's figures stand.
-pub const PARTS: usize = TOLD + MOST_TOLD;
-
-// How many figures the desk has.
-pub const FIGURES: usize = whole::END;
-
-// The desk.
-pub type Desk = [u32; FIGURES];
-
-// What a part answers: the reply's number, where on the desk the figures stand that are shown of the part,
-// how many those are, and how many results there are.
+// The figures of a question that are still to be read. Behind the last one every figure is 0.
 #[derive(Clone, Copy)]
-pub struct Reply {
-    pub number: u32,
-    pub from: usize,
-    pub size: usize,
-    pub told: usize,
+pub struct Given<'a> {
+    figures: &'a [Spelled],
 }
 
-// The figure at a place.
-fn at(all: &Desk, place: usize) -> u32 {
-    if place < FIGURES { all[place] } else { 0 }
-}
+impl<'a> Given<'a> {
+    // No figures.
+    pub(crate) fn none() -> Given<'a> {
+        Given { figures: &[] }
+    }
 
-// The figure that stands so many after a place.
-pub(crate) fn word(all: &Desk, from: usize, i: usize) -> u32 {
-    at(all, wrapping_add_usize(from, i))
-}
+    // Those that stand in a line behind the name. None where anything else stands there.
+    pub(crate) fn of(line: &'a [u8]) -> Option<Given<'a>> {
+        let (figures, rest) = line.as_chunks::<9>();
+        if rest.is_empty() && figures.iter().all(|figure| number(figure).is_some()) {
+            Some(Given { figures })
+        } else {
+            None
+        }
+    }
 
-// The same, as a float.
-pub(crate) fn float(all: &Desk, from: usize, i: usize) -> f32 {
-    bits::float_of(word(all, from, i))
-}
+    // The first so many, and those that follow them. None where there are fewer.
+    pub(crate) fn split(self, n: usize) -> Option<(Given<'a>, Given<'a>)> {
+        let (first, rest) = self.figures.split_at_checked(n)?;
+        Some((Given { figures: first }, Given { figures: rest }))
+    }
 
-// The same, as a count.
-pub(crate) fn count(all: &Desk, from: usize, i: usize) -> usize {
-    wide(word(all, from, i))
-}
+    // How many there are.
+    pub(crate) fn len(self) -> usize {
+        self.figures.len()
+    }
 
-// The same, as a bool.
-pub(crate) fn flag(all: &Desk, from: usize, i: usize) -> bool {
-    word(all, from, i) != 0
-}
+    // Takes the next figure.
+    pub(crate) fn word(&mut self) -> u32 {
+        match self.figures.split_first() {
+            Some((figure, rest)) => {
+                self.figures = rest;
+                number(figure).unwrap_or(0)
+            }
+            None => 0,
+        }
+    }
 
-// The number of 64 bits whose higher half stands there.
-pub(crate) fn long(all: &Desk, from: usize, i: usize) -> u64 {
-    let place = wrapping_add_usize(from, i);
-    numbers::joined(at(all, place), word(all, place, 1))
-}
+    // Takes a float.
+    pub(crate) fn float(&mut self) -> f32 {
+        bits::float_of(self.word())
+    }
 
-// A number as a count.
-pub(crate) fn wide(n: u32) -> usize {
-    n as usize
-}
+    // Takes a count.
+    pub(crate) fn count(&mut self) -> usize {
+        self.word() as usize
+    }
 
-// The first three figures of a question.
-#[derive(Clone, Copy)]
-pub struct Given {
-    pub first: u32,
-    pub second: u32,
-    pub third: u32,
-}
+    // Takes a bool: whatever is not 0 is yes.
+    pub(crate) fn flag(&mut self) -> bool {
+        self.word() != 0
+    }
 
-// Those of the question that lies on the desk.
-pub(crate) fn asked(desk: &Desk) -> Given {
-    Given {
-        first: at(desk, 0),
-        second: at(desk, 1),
-        third: at(desk, 2),
+    // Takes a number of 64 bits.
+    pub(crate) fn long(&mut self) -> u64 {
+        let high = u64::from(self.word());
+        let low = u64::from(self.word());
+        high * 4294967296 + low
+    }
+
+    // Takes so many floats.
+    pub(crate) fn floats(&mut self, list: &mut [f32]) {
+        for x in list {
+            *x = self.float();
+        }
     }
 }
 
-// Stores a figure at a place.
-pub(crate) fn store(all: &mut Desk, place: usize, figure: u32) {
-    if place < FIGURES {
-        all[place] = figure;
-    }
+// The figures of an answer. The longest has 118, but for the samples of a frame.
+#[derive(Drop)]
+pub struct Sheet {
+    figures: ArrayVec<u32, 128>,
 }
 
-// Stores some figures, from a place on.
-pub(crate) fn put(all: &mut Desk, from: usize, some: &[u32]) {
-    let mut i = 0;
-    while i < some.len() {
-        store(all, wrapping_add_usize(from, i), some[i]);
-        i += 1;
+impl Sheet {
+    // None yet.
+    pub(crate) fn new() -> Sheet {
+        Sheet {
+            figures: ArrayVec::new(),
+        }
     }
-}
 
-// Stores some floats, from a place on.
-pub(crate) fn put_floats(all: &mut Desk, from: usize, some: &[f32]) {
-    let mut i = 0;
-    while i < some.len() {
-        store(all, wrapping_add_usize(from, i), bits::bits_of(some[i]));
-        i += 1;
+    // All that were put.
+    pub(crate) fn figures(&self) -> &[u32] {
+        self.figures.as_slice()
     }
-}
 
-// Stores the twenty levels of a frame, from a place on.
-pub(crate) fn put_levels(all: &mut Desk, from: usize, levels: [LinearS16; 20]) {
-    let mut i = 0;
-    while i < 20 {
-        let level = levels[i];
-        store(all, wrapping_add_usize(from, i), bits::bits_of(level.0));
-        i += 1;
+    // Puts those of another sheet.
+    pub(crate) fn put(&mut self, other: &Sheet) {
+        let _ = self.figures.try_extend_from_slice(other.figures());
     }
-}
 
-// Stores the figures of a line whose name ends at a place: as many as are asked for, and 0 where the
-// line has no more.
-pub(crate) fn ask(all: &mut Desk, line: &[u8], name: usize, count: usize) {
-    let mut at = wrapping_add_usize(name, 1);
-    let mut i: usize = 0;
-    while i < count {
-        let figure = words::read(line, at);
-        store(all, i, figure.bits);
-        at = wrapping_add_usize(at, 9);
-        i += 1;
+    // Puts a number.
+    pub(crate) fn word(&mut self, n: u32) {
+        let _ = self.figures.try_push(n);
+    }
+
+    // Puts a float.
+    pub(crate) fn float(&mut self, x: f32) {
+        self.word(bits::bits_of(x));
+    }
+
+    // Puts some floats.
+    pub(crate) fn floats(&mut self, list: &[f32]) {
+        for x in list {
+            self.float(*x);
+        }
+    }
+
+    // Puts the lower half of a count.
+    pub(crate) fn count(&mut self, n: usize) {
+        self.word((n % 4294967296) as u32);
+    }
+
+    // Puts a bool.
+    pub(crate) fn flag(&mut self, b: bool) {
+        self.word(u32::from(b));
+    }
+
+    // Puts a number of 64 bits.
+    pub(crate) fn long(&mut self, n: u64) {
+        self.word((n / 4294967296) as u32);
+        self.word((n % 4294967296) as u32);
     }
 }

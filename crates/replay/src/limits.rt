@@ -9,104 +9,71 @@
 // Each answer shows the state, which is sixteen figures (the carried factor, the level estimator's three
 // and the curve's twelve); whether it passes; and last_audio_level (a reply and the level).
 
-use crate::figures::{ASKED, Desk, Given, Reply};
-use crate::{applier, curve, estimator, figures, numbers};
-use limiter::{Limiter, Next};
-use std::num::wrapping_add_usize;
-use units::replies::DONE;
+use crate::figures::{Given, Sheet};
+use crate::part::{Asked, DONE, Part, loud, quiet, settled};
+use crate::{curve, estimator};
+use fixed_digital_level_estimator::Estimator;
+use interpolated_gain_curve::Curve;
+use limiter::Limiter;
+use units::kinds::LinearS16;
 
-// The part's number, how many figures its state has and how many are shown of it, and where these stand and
-// end on the desk.
-pub const PART: u32 = applier::PART + 1;
-
-pub const STATE: usize = CURVE + curve::STATE;
-
-const SHOWN: usize = STATE + REST;
-
-pub const FROM: usize = applier::END;
-
-pub const END: usize = FROM + SHOWN;
-
-// Where the level estimator's and the curve's stand behind the carried factor, and how many figures are shown
-// behind the state.
-const ESTIMATOR: usize = 1;
-
-const CURVE: usize = ESTIMATOR + estimator::STATE;
-
-const REST: usize = 3;
-
-// The names, as `lines::seek` takes them: a letter, how many figures the name takes, and the name.
-pub const NAMES: [u8; 85] =
-    *b"n1=limiter.new s*=limiter.set c1=limiter.samples r0=limiter.reset p2+limiter.process ";
-
-// The letters.
-const NEW: u8 = b'n';
-
-const SET: u8 = b's';
-
-const SAMPLES: u8 = b'c';
-
-const RESET: u8 = b'r';
-
-const PROCESS: u8 = b'p';
-
-// The limiter whose figures stand at a place.
-pub(crate) fn read(all: &Desk, from: usize) -> Limiter {
-    Limiter {
-        estimator: estimator::read(all, wrapping_add_usize(from, ESTIMATOR)),
-        curve: curve::read(all, wrapping_add_usize(from, CURVE)),
-        carried: figures::float(all, from, 0),
-    }
+#[derive(Clone, Copy)]
+pub enum Question {
+    New,
+    Set,
+    Samples,
+    Reset,
+    Process,
 }
 
-// The figures that are shown of a limiter behind its state.
-fn rest(limiter: Limiter) -> [u32; REST] {
-    let heard = limiter.last_audio_level();
-    [
-        numbers::flag(limiter.passes()),
-        heard.reply,
-        bits::bits_of(heard.level.0),
-    ]
-}
+impl Part for Limiter {
+    type Question = Question;
 
-// Leaves a limiter's figures on the desk. What is shown of a part behind its state is overwritten by what
-// comes next.
-pub(crate) fn leave(desk: &mut Desk, limiter: Limiter) {
-    let last = rest(limiter);
-    figures::store(desk, FROM, bits::bits_of(limiter.carried));
-    estimator::put(desk, FROM + ESTIMATOR, limiter.estimator);
-    curve::put(desk, FROM + CURVE, limiter.curve, 0.0);
-    figures::put(desk, FROM + STATE, &last);
-}
+    const STATE: usize = 1 + Estimator::STATE + Curve::STATE;
 
-// The reply to a question about a limiter, and the limiter after it.
-fn next(word: u8, limiter: Limiter, given: Given, frame: &mut [f32]) -> Next {
-    let first = figures::wide(given.first);
-    if word == NEW {
-        Limiter::new(first)
-    } else if word == SAMPLES {
-        limiter.set_samples_per_channel(first)
-    } else if word == RESET {
-        limiter.reset()
-    } else if word == PROCESS {
-        limiter.process(frame, first, figures::wide(given.second))
-    } else {
-        Next {
-            reply: DONE,
-            limiter,
+    fn named(name: &[u8]) -> Option<Asked<Question>> {
+        match name {
+            b".new" => quiet(Question::New, 1),
+            b".set" => quiet(Question::Set, Limiter::STATE),
+            b".samples" => quiet(Question::Samples, 1),
+            b".reset" => quiet(Question::Reset, 0),
+            b".process" => loud(Question::Process, 2),
+            _ => None,
         }
     }
-}
 
-// Answers the question that lies on the desk.
-pub(crate) fn answer(word: u8, given: Given, desk: &mut Desk, frame: &mut [f32]) -> Reply {
-    let before = read(desk, numbers::pick(word == SET, ASKED, FROM));
-    let a = next(word, before, given, frame);
-    leave(desk, a.limiter);
-    Reply {
-        number: a.reply,
-        from: FROM,
-        size: SHOWN,
-        told: 0,
+    fn read(given: &mut Given<'_>) -> Limiter {
+        let carried = given.float();
+        Limiter {
+            estimator: Estimator::read(given),
+            curve: Curve::read(given),
+            carried,
+        }
+    }
+
+    fn show(self, sheet: &mut Sheet) {
+        sheet.float(self.carried);
+        estimator::put(self.estimator, sheet);
+        curve::put(self.curve, sheet);
+        sheet.flag(self.passes());
+        let (reply, level) = settled(LinearS16(0.0), self.last_audio_level());
+        sheet.word(reply);
+        sheet.float(level.0);
+    }
+
+    fn next(
+        self,
+        question: Question,
+        given: &mut Given<'_>,
+        frame: &mut [f32],
+        _told: &mut Sheet,
+    ) -> (u32, Limiter) {
+        match question {
+            Question::New => settled(Limiter::none(), Limiter::new(given.count())),
+            Question::Set => (DONE, Limiter::read(given)),
+            Question::Samples => settled(self, self.set_samples_per_channel(given.count())),
+            Question::Reset => settled(self, self.reset()),
+            Question::Process => settled(self, self.process(frame, given.count(), given.count())),
+        }
     }
 }

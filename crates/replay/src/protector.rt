@@ -11,147 +11,101 @@
 // one, each as its headroom, its ring (the capacity, the place, the size and the sixteen that are stored), the
 // largest peak and the time since the last push); whether it passes; and headroom_db (a reply and the headroom).
 
-use crate::figures::{ASKED, Desk, Given, Reply};
-use crate::{figures, numbers, ring, speech};
-use saturation_protector::{Next, Peaks, Protector};
-use std::num::wrapping_add_usize;
+use crate::figures::{Given, Sheet};
+use crate::part::{Asked, DONE, Part, quiet, settled};
+use crate::ring;
+use saturation_protector::{Peaks, Protector};
 use units::kinds::{Db, Dbfs};
-use units::replies::DONE;
 
-// The part's number, how many figures its state has and how many are shown of it, and where these stand and
-// end on the desk.
-pub const PART: u32 = speech::PART + 1;
+#[derive(Clone, Copy)]
+pub enum Question {
+    New,
+    Set,
+    Analyze,
+    Reset,
+    Gap,
+}
 
-pub const STATE: usize = RELIABLE + PEAKS;
+// How many figures one of the two states has: its ring's, and three more.
+const PEAKS: usize = ring::STATE + 3;
 
-const SHOWN: usize = STATE + REST;
-
-pub const FROM: usize = speech::END;
-
-pub const END: usize = FROM + SHOWN;
-
-// Where the ring stands in one of the two states, and the largest peak; how many figures such a state has; where
-// the two stand in the part's state; and how many figures are shown behind it.
-const RING: usize = 1;
-
-const LARGEST: usize = RING + ring::STATE;
-
-const PEAKS: usize = LARGEST + 2;
-
-const PRELIMINARY: usize = 4;
-
-const RELIABLE: usize = PRELIMINARY + PEAKS;
-
-const REST: usize = 3;
-
-// The names, as `lines::seek` takes them: a letter, how many figures the name takes, and the name.
-pub const NAMES: [u8; 91] =
-    *b"n3=protector.new s*=protector.set a3=protector.analyze r0=protector.reset g0=protector.gap ";
-
-// The letters.
-const NEW: u8 = b'n';
-
-const SET: u8 = b's';
-
-const ANALYZE: u8 = b'a';
-
-const RESET: u8 = b'r';
-
-const GAP: u8 = b'g';
-
-// The state whose figures stand at a place.
-fn peaks(all: &Desk, from: usize) -> Peaks {
-    let last = wrapping_add_usize(from, LARGEST);
+// The one of the two states that is given.
+fn read_peaks(given: &mut Given<'_>) -> Peaks {
     Peaks {
-        headroom: figures::float(all, from, 0),
-        ring: ring::read(all, wrapping_add_usize(from, RING)),
-        largest: figures::float(all, last, 0),
-        elapsed: figures::word(all, last, 1),
+        headroom: given.float(),
+        ring: ring::read(given),
+        largest: given.float(),
+        elapsed: given.word(),
     }
 }
 
-// The protector whose figures stand at a place.
-pub(crate) fn read(all: &Desk, from: usize) -> Protector {
-    Protector {
-        initial: figures::float(all, from, 0),
-        threshold: figures::word(all, from, 1),
-        count: figures::word(all, from, 2),
-        headroom: figures::float(all, from, 3),
-        preliminary: peaks(all, wrapping_add_usize(from, PRELIMINARY)),
-        reliable: peaks(all, wrapping_add_usize(from, RELIABLE)),
-    }
+// Puts one of the two states.
+fn put_peaks(state: Peaks, sheet: &mut Sheet) {
+    sheet.float(state.headroom);
+    ring::put(state.ring, sheet);
+    sheet.float(state.largest);
+    sheet.word(state.elapsed);
 }
 
-// Stores the figures of one of the two states, from a place on.
-fn put_peaks(desk: &mut Desk, from: usize, state: Peaks) {
-    let last = [bits::bits_of(state.largest), state.elapsed];
-    figures::store(desk, from, bits::bits_of(state.headroom));
-    ring::put(desk, wrapping_add_usize(from, RING), state.ring);
-    figures::put(desk, wrapping_add_usize(from, LARGEST), &last);
-}
+impl Part for Protector {
+    type Question = Question;
 
-// The first figures that are shown of a protector.
-fn first(protector: Protector) -> [u32; PRELIMINARY] {
-    [
-        bits::bits_of(protector.initial),
-        protector.threshold,
-        protector.count,
-        bits::bits_of(protector.headroom),
-    ]
-}
+    const STATE: usize = 4 + 2 * PEAKS;
 
-// Those that are shown behind its state.
-fn rest(protector: Protector) -> [u32; REST] {
-    let told = protector.headroom_db();
-    [
-        numbers::flag(protector.passes()),
-        told.reply,
-        bits::bits_of(told.headroom.0),
-    ]
-}
-
-// Leaves a protector's figures on the desk.
-pub(crate) fn leave(desk: &mut Desk, protector: Protector) {
-    let ahead = first(protector);
-    let behind = rest(protector);
-    figures::put(desk, FROM, &ahead);
-    put_peaks(desk, FROM + PRELIMINARY, protector.preliminary);
-    put_peaks(desk, FROM + RELIABLE, protector.reliable);
-    figures::put(desk, FROM + STATE, &behind);
-}
-
-// The reply to a question about a protector, and the protector after it.
-fn next(word: u8, protector: Protector, given: Given) -> Next {
-    let first = bits::float_of(given.first);
-    if word == NEW {
-        Protector::new(Db(first), given.second, given.third)
-    } else if word == ANALYZE {
-        protector.analyze(
-            first,
-            Dbfs(bits::float_of(given.second)),
-            Dbfs(bits::float_of(given.third)),
-        )
-    } else if word == RESET {
-        protector.reset()
-    } else if word == GAP {
-        protector.gap()
-    } else {
-        Next {
-            reply: DONE,
-            protector,
+    fn named(name: &[u8]) -> Option<Asked<Question>> {
+        match name {
+            b".new" => quiet(Question::New, 3),
+            b".set" => quiet(Question::Set, Protector::STATE),
+            b".analyze" => quiet(Question::Analyze, 3),
+            b".reset" => quiet(Question::Reset, 0),
+            b".gap" => quiet(Question::Gap, 0),
+            _ => None,
         }
     }
-}
 
-// Answers the question that lies on the desk.
-pub(crate) fn answer(word: u8, given: Given, desk: &mut Desk) -> Reply {
-    let before = read(desk, numbers::pick(word == SET, ASKED, FROM));
-    let a = next(word, before, given);
-    leave(desk, a.protector);
-    Reply {
-        number: a.reply,
-        from: FROM,
-        size: SHOWN,
-        told: 0,
+    fn read(given: &mut Given<'_>) -> Protector {
+        Protector {
+            initial: given.float(),
+            threshold: given.word(),
+            count: given.word(),
+            headroom: given.float(),
+            preliminary: read_peaks(given),
+            reliable: read_peaks(given),
+        }
+    }
+
+    fn show(self, sheet: &mut Sheet) {
+        sheet.float(self.initial);
+        sheet.word(self.threshold);
+        sheet.word(self.count);
+        sheet.float(self.headroom);
+        put_peaks(self.preliminary, sheet);
+        put_peaks(self.reliable, sheet);
+        sheet.flag(self.passes());
+        let (reply, headroom) = settled(Db(0.0), self.headroom_db());
+        sheet.word(reply);
+        sheet.float(headroom.0);
+    }
+
+    fn next(
+        self,
+        question: Question,
+        given: &mut Given<'_>,
+        _frame: &mut [f32],
+        _told: &mut Sheet,
+    ) -> (u32, Protector) {
+        match question {
+            Question::New => {
+                let made = Protector::new(Db(given.float()), given.word(), given.word());
+                settled(Protector::none(), made)
+            }
+            Question::Set => (DONE, Protector::read(given)),
+            Question::Analyze => {
+                let made = self.analyze(given.float(), Dbfs(given.float()), Dbfs(given.float()));
+                settled(self, made)
+            }
+            Question::Reset => settled(self, self.reset()),
+            Question::Gap => settled(self, self.gap()),
+        }
     }
 }

@@ -2,28 +2,41 @@
 //
 //   ratio X
 
-use crate::figures;
-use crate::figures::{Desk, Given, PARTS, Reply, TOLD};
+use crate::figures::{Given, Sheet};
+use crate::part::{Asked, Part, quiet, settled};
 use units::kinds::Db;
 
-// The part's number, how many figures its state has, and where these would end on the desk.
-pub const PART: u32 = 1;
+// The part.
+#[derive(Clone, Copy)]
+pub struct Ratio;
 
-pub const STATE: usize = 0;
+impl Part for Ratio {
+    type Question = ();
 
-pub const END: usize = PARTS;
+    const STATE: usize = 0;
 
-// The names, as `lines::seek` takes them: a letter, how many figures the name takes, and the name.
-pub const NAMES: [u8; 9] = *b"x1=ratio ";
+    fn named(name: &[u8]) -> Option<Asked<()>> {
+        match name {
+            b"" => quiet((), 1),
+            _ => None,
+        }
+    }
 
-// Answers the question that lies on the desk.
-pub(crate) fn answer(given: Given, desk: &mut Desk) -> Reply {
-    let a = decibels::ratio(Db(bits::float_of(given.first)));
-    figures::store(desk, TOLD, bits::bits_of(a.ratio));
-    Reply {
-        number: a.reply,
-        from: 0,
-        size: 0,
-        told: 1,
+    fn read(_given: &mut Given<'_>) -> Ratio {
+        Ratio
+    }
+
+    fn show(self, _sheet: &mut Sheet) {}
+
+    fn next(
+        self,
+        _question: (),
+        given: &mut Given<'_>,
+        _frame: &mut [f32],
+        told: &mut Sheet,
+    ) -> (u32, Ratio) {
+        let (reply, ratio) = settled(0.0, decibels::ratio(Db(given.float())));
+        told.float(ratio);
+        (reply, self)
     }
 }

@@ -11,148 +11,111 @@
 // 0 for none and 1 for one, and its value); how many peaks there are (a reply and the number); and whether it equals
 // the one that was put aside (a reply and a bool).
 
-use crate::figures::{ASKED, Desk, Given, Reply};
-use crate::{figures, numbers, ratio};
-use saturation_protector_buffer::{Front, Next, Ring, STORAGE};
-use std::num::wrapping_add_usize;
+use crate::figures::{Given, Sheet};
+use crate::part::{Asked, DONE, Part, quiet, settled};
+use saturation_protector_buffer::{Ring, STORAGE};
 use units::kinds::Dbfs;
-use units::replies::DONE;
 
-// The part's number, how many figures its state has and how many are shown of it, and where these stand and
-// end on the desk.
-pub const PART: u32 = ratio::PART + 1;
+// How many figures a ring's state has.
+pub const STATE: usize = 3 + STORAGE;
 
-pub const STATE: usize = STORED + STORAGE;
+// The ring, and the one that is put aside.
+#[derive(Clone, Copy)]
+pub struct Rings {
+    ring: Ring,
+    aside: Ring,
+}
 
-const SHOWN: usize = STATE + REST;
+#[derive(Clone, Copy)]
+pub enum Question {
+    New,
+    Set,
+    Push,
+    Reset,
+    Keep,
+}
 
-pub const FROM: usize = ratio::END;
-
-// The ring that is put aside stands behind it.
-const ASIDE: usize = FROM + SHOWN;
-
-pub const END: usize = ASIDE + SHOWN;
-
-// Where the peaks stand that are stored, behind the capacity, the place and the size; and how many figures are
-// shown behind the state.
-const STORED: usize = 3;
-
-const REST: usize = 11;
-
-// The names, as `lines::seek` takes them: a letter, how many figures the name takes, and the name.
-pub const NAMES: [u8; 64] = *b"n1=ring.new s*=ring.set p1=ring.push r0=ring.reset k0=ring.keep ";
-
-// The letters.
-const NEW: u8 = b'n';
-
-const SET: u8 = b's';
-
-const PUSH: u8 = b'p';
-
-const RESET: u8 = b'r';
-
-const KEEP: u8 = b'k';
-
-// The ring whose figures stand at a place.
-pub(crate) fn read(all: &Desk, from: usize) -> Ring {
-    let at = wrapping_add_usize(from, STORED);
+// The ring whose state is given.
+pub(crate) fn read(given: &mut Given<'_>) -> Ring {
+    let capacity = given.word();
+    let place = given.word();
+    let size = given.word();
+    let mut stored = [0.0; STORAGE];
+    given.floats(&mut stored);
     Ring {
-        stored: [
-            figures::float(all, at, 0),
-            figures::float(all, at, 1),
-            figures::float(all, at, 2),
-            figures::float(all, at, 3),
-            figures::float(all, at, 4),
-            figures::float(all, at, 5),
-            figures::float(all, at, 6),
-            figures::float(all, at, 7),
-            figures::float(all, at, 8),
-            figures::float(all, at, 9),
-            figures::float(all, at, 10),
-            figures::float(all, at, 11),
-            figures::float(all, at, 12),
-            figures::float(all, at, 13),
-            figures::float(all, at, 14),
-            figures::float(all, at, 15),
-        ],
-        capacity: figures::word(all, from, 0),
-        place: figures::word(all, from, 1),
-        size: figures::word(all, from, 2),
+        stored,
+        capacity,
+        place,
+        size,
     }
 }
 
-// The oldest peak: its value, or 0.
-fn value(front: Front) -> u32 {
-    match front {
-        Front::None => 0,
-        Front::Oldest(x) => bits::bits_of(x.0),
+// Puts a ring's state.
+pub(crate) fn put(ring: Ring, sheet: &mut Sheet) {
+    sheet.word(ring.capacity);
+    sheet.word(ring.place);
+    sheet.word(ring.size);
+    sheet.floats(&ring.stored);
+}
+
+impl Part for Rings {
+    type Question = Question;
+
+    const STATE: usize = STATE;
+
+    fn named(name: &[u8]) -> Option<Asked<Question>> {
+        match name {
+            b".new" => quiet(Question::New, 1),
+            b".set" => quiet(Question::Set, STATE),
+            b".push" => quiet(Question::Push, 1),
+            b".reset" => quiet(Question::Reset, 0),
+            b".keep" => quiet(Question::Keep, 0),
+            _ => None,
+        }
     }
-}
 
-// Whether there is one.
-fn case(front: Front) -> u32 {
-    match front {
-        Front::None => 0,
-        Front::Oldest(_) => 1,
+    fn read(given: &mut Given<'_>) -> Rings {
+        Rings {
+            ring: read(given),
+            aside: read(given),
+        }
     }
-}
 
-// Stores the figures of a ring's state, from a place on.
-pub(crate) fn put(desk: &mut Desk, from: usize, ring: Ring) {
-    let stored = ring.stored;
-    let first = [ring.capacity, ring.place, ring.size];
-    figures::put(desk, from, &first);
-    figures::put_floats(desk, wrapping_add_usize(from, STORED), &stored);
-}
-
-// The figures that are shown of a ring behind its state.
-fn rest(ring: Ring, aside: Ring) -> [u32; REST] {
-    let oldest = ring.front();
-    let front = oldest.front;
-    let size = ring.size();
-    let held = ring.capacity();
-    let same = ring.equals(aside);
-    [
-        numbers::flag(ring.passes()),
-        saturation_protector_buffer::usual_capacity(),
-        held.reply,
-        held.capacity,
-        oldest.reply,
-        case(front),
-        value(front),
-        size.reply,
-        numbers::narrow(size.size),
-        same.reply,
-        numbers::flag(same.equal),
-    ]
-}
-
-// The reply to a question about a ring, and the ring after it. The figure of a question is a capacity or a peak.
-fn next(word: u8, ring: Ring, figure: u32) -> Next {
-    if word == NEW {
-        Ring::new(figure)
-    } else if word == PUSH {
-        ring.push_back(Dbfs(bits::float_of(figure)))
-    } else if word == RESET {
-        ring.reset()
-    } else {
-        Next { reply: DONE, ring }
+    fn show(self, sheet: &mut Sheet) {
+        let ring = self.ring;
+        put(ring, sheet);
+        sheet.flag(ring.passes());
+        sheet.word(saturation_protector_buffer::usual_capacity());
+        let (reply, capacity) = settled(0, ring.capacity());
+        sheet.word(reply);
+        sheet.word(capacity);
+        let (reply, oldest) = settled(None, ring.front());
+        sheet.word(reply);
+        sheet.flag(oldest.is_some());
+        sheet.float(oldest.map_or(0.0, |peak| peak.0));
+        let (reply, size) = settled(0, ring.size());
+        sheet.word(reply);
+        sheet.count(size);
+        let (reply, same) = settled(false, ring.equals(self.aside));
+        sheet.word(reply);
+        sheet.flag(same);
     }
-}
 
-// Answers the question that lies on the desk. A ring that is put aside is shown from there.
-pub(crate) fn answer(word: u8, given: Given, desk: &mut Desk) -> Reply {
-    let before = read(desk, numbers::pick(word == SET, ASKED, FROM));
-    let aside = read(desk, numbers::pick(word == KEEP, FROM, ASIDE));
-    let to = numbers::pick(word == KEEP, ASIDE, FROM);
-    let a = next(word, before, given.first);
-    let last = rest(a.ring, aside);
-    put(desk, to, a.ring);
-    figures::put(desk, wrapping_add_usize(to, STATE), &last);
-    Reply {
-        number: a.reply,
-        from: to,
-        size: SHOWN,
-        told: 0,
+    fn next(
+        self,
+        question: Question,
+        given: &mut Given<'_>,
+        _frame: &mut [f32],
+        _told: &mut Sheet,
+    ) -> (u32, Rings) {
+        let Rings { ring, aside } = self;
+        let (reply, ring) = match question {
+            Question::New => settled(Ring::none(), Ring::new(given.word())),
+            Question::Set => (DONE, read(given)),
+            Question::Push => settled(ring, ring.push_back(Dbfs(given.float()))),
+            Question::Reset => settled(ring, ring.reset()),
+            Question::Keep => return (DONE, Rings { ring, aside: ring }),
+        };
+        (reply, Rings { ring, aside })
     }
 }

@@ -11,147 +11,123 @@
 // published level, whether it is trusted, and the count of adjacent speech frames); whether it passes;
 // level_dbfs (a reply and the level); and is_confident (a reply and a bool).
 
-use crate::figures::{ASKED, Desk, Given, Reply};
-use crate::{figures, limits, numbers};
-use speech_level_estimator::{Average, Estimator, Next};
-use std::num::wrapping_add_usize;
+use crate::figures::{Given, Sheet};
+use crate::part::{Asked, DONE, Part, quiet, settled};
+use speech_level_estimator::{Average, Estimator};
 use units::kinds::{Db, Dbfs};
-use units::replies::DONE;
 use units::settings::Settings;
 
-// The part's number, how many figures its state has and how many are shown of it, and where these stand and
-// end on the desk.
-pub const PART: u32 = limits::PART + 1;
+#[derive(Clone, Copy)]
+pub enum Question {
+    New,
+    Set,
+    Update,
+    Reset,
+    Gap,
+}
 
-pub const STATE: usize = SETTINGS + 11;
-
-const SHOWN: usize = STATE + 5;
-
-pub const FROM: usize = limits::END;
-
-pub const END: usize = FROM + SHOWN;
-
-// How many of these are settings.
+// How many figures the settings have.
 pub const SETTINGS: usize = 5;
 
-// The names, as `lines::seek` takes them: a letter, how many figures the name takes, and the name.
-pub const NAMES: [u8; 75] =
-    *b"n6=speech.new s*=speech.set u2=speech.update r0=speech.reset g0=speech.gap ";
-
-// The letters.
-const NEW: u8 = b'n';
-
-const SET: u8 = b's';
-
-const UPDATE: u8 = b'u';
-
-const RESET: u8 = b'r';
-
-const GAP: u8 = b'g';
-
-// The settings whose figures stand at a place.
-pub(crate) fn settings(all: &Desk, from: usize) -> Settings {
+// The settings that are given.
+pub(crate) fn read_settings(given: &mut Given<'_>) -> Settings {
     Settings {
-        headroom: Db(figures::float(all, from, 0)),
-        largest: Db(figures::float(all, from, 1)),
-        initial: Db(figures::float(all, from, 2)),
-        change: figures::float(all, from, 3),
-        noise: Dbfs(figures::float(all, from, 4)),
+        headroom: Db(given.float()),
+        largest: Db(given.float()),
+        initial: Db(given.float()),
+        change: given.float(),
+        noise: Dbfs(given.float()),
     }
 }
 
-// The average whose figures stand at a place.
-fn average(all: &Desk, from: usize) -> Average {
+// Puts settings.
+pub(crate) fn put_settings(settings: Settings, sheet: &mut Sheet) {
+    sheet.float(settings.headroom.0);
+    sheet.float(settings.largest.0);
+    sheet.float(settings.initial.0);
+    sheet.float(settings.change);
+    sheet.float(settings.noise.0);
+}
+
+// The average that is given.
+fn read_average(given: &mut Given<'_>) -> Average {
     Average {
-        left: figures::word(all, from, 0),
-        sum: figures::float(all, from, 1),
-        weight: figures::float(all, from, 2),
+        left: given.word(),
+        sum: given.float(),
+        weight: given.float(),
     }
 }
 
-// The estimator whose figures stand at a place.
-pub(crate) fn read(all: &Desk, from: usize) -> Estimator {
-    Estimator {
-        settings: settings(all, from),
-        threshold: figures::word(all, from, 5),
-        initial: figures::float(all, from, 6),
-        preliminary: average(all, wrapping_add_usize(from, 7)),
-        reliable: average(all, wrapping_add_usize(from, 10)),
-        level: figures::float(all, from, 13),
-        confident: figures::flag(all, from, 14),
-        count: figures::word(all, from, 15),
-    }
+// Puts an average.
+fn put_average(average: Average, sheet: &mut Sheet) {
+    sheet.word(average.left);
+    sheet.float(average.sum);
+    sheet.float(average.weight);
 }
 
-// The figures that are shown of an estimator.
-fn shown(estimator: Estimator) -> [u32; SHOWN] {
-    let told = estimator.level_dbfs();
-    let sure = estimator.is_confident();
-    [
-        bits::bits_of(estimator.settings.headroom.0),
-        bits::bits_of(estimator.settings.largest.0),
-        bits::bits_of(estimator.settings.initial.0),
-        bits::bits_of(estimator.settings.change),
-        bits::bits_of(estimator.settings.noise.0),
-        estimator.threshold,
-        bits::bits_of(estimator.initial),
-        estimator.preliminary.left,
-        bits::bits_of(estimator.preliminary.sum),
-        bits::bits_of(estimator.preliminary.weight),
-        estimator.reliable.left,
-        bits::bits_of(estimator.reliable.sum),
-        bits::bits_of(estimator.reliable.weight),
-        bits::bits_of(estimator.level),
-        numbers::flag(estimator.confident),
-        estimator.count,
-        numbers::flag(estimator.passes()),
-        told.reply,
-        bits::bits_of(told.level.0),
-        sure.reply,
-        numbers::flag(sure.confident),
-    ]
-}
+impl Part for Estimator {
+    type Question = Question;
 
-// Leaves an estimator's figures on the desk.
-pub(crate) fn leave(desk: &mut Desk, estimator: Estimator) {
-    let all = shown(estimator);
-    figures::put(desk, FROM, &all);
-}
+    const STATE: usize = SETTINGS + 11;
 
-// The reply to a question about an estimator, and the estimator after it. The one that is started afresh has
-// the settings and the threshold of the one that is given.
-fn next(word: u8, estimator: Estimator, given: Given) -> Next {
-    if word == NEW {
-        Estimator::new(estimator.settings, estimator.threshold)
-    } else if word == UPDATE {
-        estimator.update(
-            Dbfs(bits::float_of(given.first)),
-            bits::float_of(given.second),
-        )
-    } else if word == RESET {
-        estimator.reset()
-    } else if word == GAP {
-        estimator.gap()
-    } else {
-        Next {
-            reply: DONE,
-            estimator,
+    fn named(name: &[u8]) -> Option<Asked<Question>> {
+        match name {
+            b".new" => quiet(Question::New, SETTINGS + 1),
+            b".set" => quiet(Question::Set, Estimator::STATE),
+            b".update" => quiet(Question::Update, 2),
+            b".reset" => quiet(Question::Reset, 0),
+            b".gap" => quiet(Question::Gap, 0),
+            _ => None,
         }
     }
-}
 
-// Answers the question that lies on the desk. The figures of speech.new stand as those of a state do.
-pub(crate) fn answer(word: u8, given: Given, desk: &mut Desk) -> Reply {
-    let before = read(
-        desk,
-        numbers::pick((word == NEW) | (word == SET), ASKED, FROM),
-    );
-    let a = next(word, before, given);
-    leave(desk, a.estimator);
-    Reply {
-        number: a.reply,
-        from: FROM,
-        size: SHOWN,
-        told: 0,
+    fn read(given: &mut Given<'_>) -> Estimator {
+        Estimator {
+            settings: read_settings(given),
+            threshold: given.word(),
+            initial: given.float(),
+            preliminary: read_average(given),
+            reliable: read_average(given),
+            level: given.float(),
+            confident: given.flag(),
+            count: given.word(),
+        }
+    }
+
+    fn show(self, sheet: &mut Sheet) {
+        put_settings(self.settings, sheet);
+        sheet.word(self.threshold);
+        sheet.float(self.initial);
+        put_average(self.preliminary, sheet);
+        put_average(self.reliable, sheet);
+        sheet.float(self.level);
+        sheet.flag(self.confident);
+        sheet.word(self.count);
+        sheet.flag(self.passes());
+        let (reply, level) = settled(Dbfs(0.0), self.level_dbfs());
+        sheet.word(reply);
+        sheet.float(level.0);
+        let (reply, confident) = settled(false, self.is_confident());
+        sheet.word(reply);
+        sheet.flag(confident);
+    }
+
+    fn next(
+        self,
+        question: Question,
+        given: &mut Given<'_>,
+        _frame: &mut [f32],
+        _told: &mut Sheet,
+    ) -> (u32, Estimator) {
+        match question {
+            Question::New => {
+                let settings = read_settings(given);
+                settled(Estimator::none(), Estimator::new(settings, given.word()))
+            }
+            Question::Set => (DONE, Estimator::read(given)),
+            Question::Update => settled(self, self.update(Dbfs(given.float()), given.float())),
+            Question::Reset => settled(self, self.reset()),
+            Question::Gap => settled(self, self.gap()),
+        }
     }
 }

@@ -1,5 +1,4 @@
-// The chain. Its four parts stand where the limiter, the level of the speech, the protector and the controller
-// stand on the desk, so each of them can be handed in by its own name as well.
+// The chain. Each of its four parts can be handed in by its own name as well.
 //
 //   chain.new SETTINGS THRESHOLD SAMPLES CAPACITY
 //                                         five settings, as speech.new has them
@@ -18,199 +17,147 @@
 // and not what the chain publishes, so that a state that fails its test can be compared as well. It tells besides
 // the reply to `published`, that to `samples`, and the samples.
 
-use crate::figures::{ASKED, Desk, Given, Reply, TOLD};
-use crate::{controller, figures, limits, numbers, protector, speech};
-use chain::{Answer, Chain, Gapped, Made, Next};
+use crate::figures::{Given, Sheet};
+use crate::part::{Asked, DONE, Part, loud, quiet, settled};
+use crate::speech;
+use crate::speech::SETTINGS;
+use adaptive_digital_gain_controller::Controller;
+use chain::{Answer, Chain, Next, Published};
+use limiter::Limiter;
+use saturation_protector::Protector;
+use speech_level_estimator::Estimator;
 use units::figures::Figures;
-use units::kinds::Dbfs;
-use units::replies::DONE;
+use units::kinds::{Db, Dbfs};
 
-// The part's number, how many figures its state has, and where the desk ends: the chain has no figures of its own
-// there.
-pub const PART: u32 = controller::PART + 1;
-
-pub const STATE: usize = CONTROLLER + controller::STATE;
-
-pub const END: usize = controller::END;
-
-// Where the figures of the parts stand in a question that hands a state in: the limiter's are the first.
-const SPEECH: usize = ASKED + limits::STATE;
-
-const PROTECTOR: usize = SPEECH + speech::STATE;
-
-const CONTROLLER: usize = PROTECTOR + protector::STATE;
-
-// How many figures are shown of the four parts, which stand one after the other on the desk.
-const SHOWN: usize = END - limits::FROM;
-
-// How many results there are, and how many with those of the calls that look at the chain.
-const RESULTS: usize = 9;
-
-const LOOKS: usize = RESULTS + 3;
-
-// Where the question has the frame's figures.
-const KNOWN: usize = 2;
-
-// The names, as `lines::seek` takes them: a letter, how many figures the name takes, and the name.
-pub const NAMES: [u8; 68] =
-    *b"n8=chain.new s*=chain.set f7+chain.step g0=chain.gap l0=chain.state ";
-
-// The letters.
-const NEW: u8 = b'n';
-
-const SET: u8 = b's';
-
-const STEP: u8 = b'f';
-
-const GAP: u8 = b'g';
-
-const LOOK: u8 = b'l';
-
-// A frame's figures, which stand at a place.
-fn metered(all: &Desk, from: usize) -> Figures {
-    Figures {
-        probability: figures::float(all, from, 0),
-        rms: Dbfs(figures::float(all, from, 1)),
-        peak: Dbfs(figures::float(all, from, 2)),
-        noise: Dbfs(figures::float(all, from, 3)),
-        envelope: Dbfs(figures::float(all, from, 4)),
-    }
-}
-
-// The chain whose parts' figures stand on the desk, or the one that the question hands in.
-fn read(desk: &Desk, given: bool) -> Chain {
-    Chain {
-        estimator: speech::read(desk, numbers::pick(given, SPEECH, speech::FROM)),
-        protector: protector::read(desk, numbers::pick(given, PROTECTOR, protector::FROM)),
-        controller: controller::read(desk, numbers::pick(given, CONTROLLER, controller::FROM)),
-        limiter: limits::read(desk, numbers::pick(given, ASKED, limits::FROM)),
-    }
-}
-
-// The case of an answer and its values.
 #[derive(Clone, Copy)]
-struct Case {
-    number: u32,
-    missing: u32,
-    level: u32,
-    headroom: u32,
+pub enum Question {
+    New,
+    Set,
+    Step,
+    Gap,
+    Look,
 }
 
-// Those of an answer: the number, how many frames are missing, level and headroom, and 0 for what it has not.
-fn case_of(answer: Answer) -> Case {
-    match answer {
-        Answer::NonSpeech => Case {
-            number: 0,
-            missing: 0,
-            level: 0,
-            headroom: 0,
-        },
-        Answer::Waiting(missing) => Case {
-            number: 1,
-            missing,
-            level: 0,
-            headroom: 0,
-        },
-        Answer::Publishing(level, headroom) => Case {
-            number: 2,
-            missing: 0,
-            level: bits::bits_of(level.0),
-            headroom: bits::bits_of(headroom.0),
-        },
+// The figures of a frame.
+fn read_figures(given: &mut Given<'_>) -> Figures {
+    Figures {
+        probability: given.float(),
+        rms: Dbfs(given.float()),
+        peak: Dbfs(given.float()),
+        noise: Dbfs(given.float()),
+        envelope: Dbfs(given.float()),
     }
 }
 
-// The results: those of the case, and what the chain publishes; and what the calls say that look at it.
-fn told(answer: Answer, chain: Chain) -> [u32; LOOKS] {
-    let now = case_of(answer);
-    let heard = chain.published();
-    let published = heard.published;
-    let size = chain.samples();
-    [
-        numbers::flag(chain.passes()),
-        now.number,
-        now.missing,
-        now.level,
-        now.headroom,
-        bits::bits_of(published.level.0),
-        bits::bits_of(published.headroom.0),
-        numbers::flag(published.confident),
-        bits::bits_of(published.gain.0),
-        heard.reply,
-        size.reply,
-        numbers::narrow(size.samples),
-    ]
+// Puts an answer's number, how many frames are missing, level and headroom, and 0 for what it has not.
+fn put_answer(answer: Answer, sheet: &mut Sheet) {
+    let (number, missing, level, headroom) = match answer {
+        Answer::NonSpeech => (0, 0, 0.0, 0.0),
+        Answer::Waiting(missing) => (1, missing, 0.0, 0.0),
+        Answer::Publishing(level, headroom) => (2, 0, level.0, headroom.0),
+    };
+    sheet.word(number);
+    sheet.word(missing);
+    sheet.float(level);
+    sheet.float(headroom);
 }
 
-// Leaves the figures of a chain's parts on the desk.
-fn leave(desk: &mut Desk, chain: Chain) {
-    speech::leave(desk, chain.estimator);
-    protector::leave(desk, chain.protector);
-    controller::leave(desk, chain.controller);
-    limits::leave(desk, chain.limiter);
+// Tells what is shown of each part of a chain.
+fn tell_parts(chain: Chain, told: &mut Sheet) {
+    chain.limiter.show(told);
+    chain.estimator.show(told);
+    chain.protector.show(told);
+    chain.controller.show(told);
 }
 
-// What is answered to a chain that is started afresh.
-fn started(a: Made) -> Next {
-    let chain = a.chain;
-    Next {
-        reply: a.reply,
-        answer: Answer::NonSpeech,
-        chain,
+// Tells the results, the last of them only where the chain is looked at.
+fn tell(answer: Answer, chain: Chain, looked: bool, told: &mut Sheet) {
+    told.flag(chain.passes());
+    put_answer(answer, told);
+    let none = Published {
+        level: Dbfs(0.0),
+        headroom: Db(0.0),
+        gain: Db(0.0),
+        confident: false,
+    };
+    let (reply, published) = settled(none, chain.published());
+    told.float(published.level.0);
+    told.float(published.headroom.0);
+    told.flag(published.confident);
+    told.float(published.gain.0);
+    if looked {
+        told.word(reply);
+        let (reply, samples) = settled(0, chain.samples());
+        told.word(reply);
+        told.count(samples);
     }
 }
 
-// What is answered to a gap, which is no frame.
-fn interrupted(a: Gapped) -> Next {
-    let chain = a.chain;
-    Next {
-        reply: a.reply,
-        answer: Answer::NonSpeech,
-        chain,
-    }
-}
+impl Part for Chain {
+    type Question = Question;
 
-// The reply to a question without a frame, and the chain after it.
-fn still(word: u8, desk: &Desk) -> Next {
-    if word == NEW {
-        let threshold = figures::word(desk, ASKED, speech::SETTINGS);
-        let samples = figures::count(desk, ASKED, speech::SETTINGS + 1);
-        let capacity = figures::word(desk, ASKED, speech::SETTINGS + 2);
-        let settings = speech::settings(desk, ASKED);
-        started(Chain::new(settings, threshold, samples, capacity))
-    } else if word == GAP {
-        interrupted(read(desk, false).gap())
-    } else {
-        Next {
-            reply: DONE,
-            answer: Answer::NonSpeech,
-            chain: read(desk, word == SET),
+    const STATE: usize = Limiter::STATE + Estimator::STATE + Protector::STATE + Controller::STATE;
+
+    fn named(name: &[u8]) -> Option<Asked<Question>> {
+        match name {
+            b".new" => quiet(Question::New, SETTINGS + 3),
+            b".set" => quiet(Question::Set, Chain::STATE),
+            b".step" => loud(Question::Step, 7),
+            b".gap" => quiet(Question::Gap, 0),
+            b".state" => quiet(Question::Look, 0),
+            _ => None,
         }
     }
-}
 
-// The reply to the question that lies on the desk, its answer, and the chain after it.
-fn next(word: u8, given: Given, desk: &Desk, frame: &mut [f32]) -> Next {
-    if word == STEP {
-        let known = metered(desk, KNOWN);
-        let channels = figures::wide(given.first);
-        read(desk, false).step(known, frame, channels, figures::wide(given.second))
-    } else {
-        still(word, desk)
+    fn read(given: &mut Given<'_>) -> Chain {
+        let limiter = Limiter::read(given);
+        Chain {
+            estimator: Estimator::read(given),
+            protector: Protector::read(given),
+            controller: Controller::read(given),
+            limiter,
+        }
     }
-}
 
-// Answers the question that lies on the desk.
-pub(crate) fn answer(word: u8, given: Given, desk: &mut Desk, frame: &mut [f32]) -> Reply {
-    let a = next(word, given, desk, frame);
-    let answer = a.answer;
-    let results = told(answer, a.chain);
-    figures::put(desk, TOLD, &results);
-    leave(desk, a.chain);
-    Reply {
-        number: a.reply,
-        from: limits::FROM,
-        size: numbers::pick(word == LOOK, SHOWN, 0),
-        told: numbers::pick(word == LOOK, LOOKS, RESULTS),
+    // Its parts are shown only where the chain is looked at, and are among the results there.
+    fn show(self, _sheet: &mut Sheet) {}
+
+    fn next(
+        self,
+        question: Question,
+        given: &mut Given<'_>,
+        frame: &mut [f32],
+        told: &mut Sheet,
+    ) -> (u32, Chain) {
+        let mut answer = Answer::NonSpeech;
+        let (reply, chain) = match question {
+            Question::New => {
+                let settings = speech::read_settings(given);
+                let made = Chain::new(settings, given.word(), given.count(), given.word());
+                settled(Chain::none(), made)
+            }
+            Question::Set => (DONE, Chain::read(given)),
+            Question::Step => {
+                let channels = given.count();
+                let samples = given.count();
+                let figures = read_figures(given);
+                let still = Next {
+                    answer,
+                    chain: self,
+                };
+                let made = self.step(figures, frame, channels, samples);
+                let (reply, next) = settled(still, made);
+                answer = next.answer;
+                (reply, next.chain)
+            }
+            Question::Gap => settled(self, self.gap()),
+            Question::Look => {
+                tell_parts(self, told);
+                (DONE, self)
+            }
+        };
+        let looked = matches!(question, Question::Look);
+        tell(answer, chain, looked, told);
+        (reply, chain)
     }
 }
