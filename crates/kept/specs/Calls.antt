@@ -1,6 +1,6 @@
 -- What each call of the library answers, refusals first. A number that stands for a flag and is none fails the state's test, as the rest of the state
 -- may. Definitions only.
-use Rattle.std.specs.Prelude.{Bool, true, ◌&&◌, cond, List, ℕ, eqb, get_or, Float}
+use Rattle.std.specs.Prelude.{Bool, true, ◌&&◌, cond, List, ℕ, eqb, get_or, Float, Result, Ok, Err}
 use Rattle.std.specs.Float.{binary32}
 use Rattle.std.specs.Float.Ieee.{of_bits}
 use Rattle.units.specs.Figures.{accepted}
@@ -10,25 +10,66 @@ use Rattle.units.specs.declared.settings.Settings.{Settings}
 use Rattle.frames.specs.Samples.{largest_input, largest_level}
 use Rattle.frames.specs.Refusal.{frame_refusal}
 use Rattle.limiter.specs.Limiter as Limiting
-use Rattle.limiter.specs.declared.Heard.{Heard}
+use Rattle.limiter.specs.Limiter.{Heard}
+use Rattle.units.specs.Handed.{number_of as number_of_refusal}
+use Rattle.units.specs.declared.kinds.LinearS16.{LinearS16}
+use Rattle.units.specs.declared.refusals.Refusal.{Refusal}
 use Rattle.chain.specs.Answer.{Said, non_speech}
 use Rattle.chain.specs.Chain as Chains
 use Rattle.chain.specs.Calls as Chaining
 use Rattle.chain.specs.declared.Published.{Published as ChainPublished}
-use Rattle.chain.specs.declared.Reading.{Reading as ChainReading}
+use Rattle.chain.specs.Calls.{Reading as ChainReading}
 use Rattle.kept.specs.States.{number_of, sound_limiter, limiter_of, kept_limiter, sound_chain, chain_of, kept_chain}
 use Rattle.kept.specs.declared.states.KeptLimiter.{KeptLimiter}
 use Rattle.kept.specs.declared.states.KeptChain.{KeptChain}
 use Rattle.kept.specs.declared.calls.KeptAnswer.{KeptAnswer}
 use Rattle.kept.specs.declared.calls.Published.{Published}
-use Rattle.kept.specs.declared.calls.NewLimiter.{NewLimiter}
-use Rattle.kept.specs.declared.calls.NewChain.{NewChain}
-use Rattle.kept.specs.declared.calls.NextChain.{NextChain}
-use Rattle.kept.specs.declared.calls.Reading.{Reading}
-use Rattle.kept.specs.declared.calls.LevelRead.{LevelRead}
+use Rattle.kept.specs.declared.calls.Stepped.{Stepped}
 
 abbrev zero : Float
 zero = of_bits binary32 0x0000_0000
+
+-- ---- what each call tells, by a reply's number: of a refusal its number, with what stands there then
+-- a limiter: a new one, all 0 where it is refused; or the one that goes on, which is the one that came in where it is refused
+pub record NewLimiter : Type 0 where
+  pub reply : ℕ
+  pub limiter : KeptLimiter
+
+unfoldable pub told_limiter : KeptLimiter → Result KeptLimiter Refusal → NewLimiter
+unfolding number_of_refusal
+told_limiter k (Ok l) = record { reply = done; limiter = l }
+told_limiter k (Err e) = record { reply = number_of_refusal e; limiter = k }
+
+-- the envelope's last value: 0 where it is refused
+pub record LevelRead : Type 0 where
+  pub reply : ℕ
+  pub level : LinearS16
+
+unfoldable pub told_level : Result LinearS16 Refusal → LevelRead
+unfolding number_of_refusal
+told_level (Ok x) = record { reply = done; level = x }
+told_level (Err e) = record { reply = number_of_refusal e; level = record { 0 = zero } }
+
+-- a chain: a new one, all 0 where it is refused; or the one that goes on after a gap, which is the one that came in where it is refused
+pub record NewChain : Type 0 where
+  pub reply : ℕ
+  pub chain : KeptChain
+
+unfoldable pub told_chain : KeptChain → Result KeptChain Refusal → NewChain
+unfolding number_of_refusal
+told_chain k (Ok c) = record { reply = done; chain = c }
+told_chain k (Err e) = record { reply = number_of_refusal e; chain = k }
+
+-- what a frame was, and the chain that goes on: no speech and the one that came in, where it is refused
+pub record NextChain : Type 0 where
+  pub reply : ℕ
+  pub answer : KeptAnswer
+  pub chain : KeptChain
+
+-- what the chain publishes: all 0 where it is refused
+pub record Reading : Type 0 where
+  pub reply : ℕ
+  pub published : Published
 
 -- ---- the limiter alone
 unfoldable pub limiter_passes : KeptLimiter → Bool
@@ -77,6 +118,11 @@ chain_made s t samples capacity = let m = Chaining.made s t samples capacity in 
 unfoldable pub kept_answer : Said → KeptAnswer
 kept_answer s = record { kind = s.number; missing = s.missing; level = record { 0 = get_or s.values 0 zero }; headroom = record { 0 = get_or s.values 1 zero } }
 
+unfoldable pub told_step : KeptChain → Result Stepped Refusal → NextChain
+unfolding number_of_refusal kept_answer
+told_step k (Ok s) = record { reply = done; answer = s.answer; chain = s.chain }
+told_step k (Err e) = record { reply = number_of_refusal e; answer = kept_answer non_speech; chain = k }
+
 pub record ChainStepped : Type 0 where
   pub next : NextChain
   pub frame : List Float
@@ -105,6 +151,11 @@ chain_gapped k = record { reply = refusal true (chain_passes k) true true; chain
 unfoldable pub kept_published : ChainPublished → Published
 unfolding number_of
 kept_published p = record { level = p.level; headroom = p.headroom; gain = p.gain; confident = number_of p.confident }
+
+unfoldable pub told_published : Result Published Refusal → Reading
+unfolding number_of_refusal kept_published
+told_published (Ok p) = record { reply = done; published = p }
+told_published (Err e) = record { reply = number_of_refusal e; published = kept_published Chaining.nothing_published }
 
 -- what the chain tells, where the flags are flags, and otherwise 4 and all 0
 unfoldable pub chain_read : KeptChain → Reading

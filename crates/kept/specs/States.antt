@@ -2,7 +2,9 @@
 -- only.
 use Rattle.std.specs.Prelude.{Bool, ◌&&◌, cond, ℕ, ◌%◌, eqb, leb}
 use Rattle.fixed_digital_level_estimator.specs.declared.Estimator.{Estimator}
+use Rattle.limiter.specs.Limiter as Limiting
 use Rattle.limiter.specs.declared.Limiter.{Limiter}
+use Rattle.chain.specs.Calls as Chaining
 use Rattle.chain.specs.declared.Chain.{Chain}
 use Rattle.kept.specs.declared.states.KeptEnvelope.{KeptEnvelope}
 use Rattle.kept.specs.declared.states.KeptLimiter.{KeptLimiter}
@@ -69,6 +71,11 @@ kept_limiter l =
             duration = l.curve.duration;
           };
     }
+
+-- what is kept of the limiter that is all 0
+unfoldable pub none_limiter : KeptLimiter
+unfolding kept_limiter Limiting.none
+none_limiter = kept_limiter Limiting.none
 
 -- ---- the chain
 unfoldable pub sound_chain : KeptChain → Bool
@@ -144,3 +151,8 @@ kept_chain c =
           };
       limiter = kept_limiter c.limiter;
     }
+
+-- what is kept of the chain that is all 0
+unfoldable pub none_chain : KeptChain
+unfolding kept_chain Chaining.nothing
+none_chain = kept_chain Chaining.nothing

@@ -3,8 +3,10 @@
 // number that is neither is no state, and its test says so. A number of samples, which the limiter keeps in 64 bits,
 // is kept in 32; a state that passes has none that needs more.
 
-ghost use Rattle.std.specs.Prelude.{◌≡◌};
-ghost use Rattle.kept.specs.States.{is_flag, flag_of, number_of, narrow, envelope_of, kept_envelope, sound_limiter, limiter_of, kept_limiter, sound_chain, chain_of, kept_chain};
+ghost use Rattle.std.specs.Prelude.{◌≡◌, true};
+ghost use Rattle.units.specs.Handed.{handed};
+ghost use Rattle.units.specs.Replies.{refusal};
+ghost use Rattle.kept.specs.States.{is_flag, flag_of, number_of, narrow, envelope_of, kept_envelope, sound_limiter, limiter_of, kept_limiter, none_limiter, sound_chain, chain_of, kept_chain, none_chain};
 
 use adaptive_digital_gain_controller::Controller;
 use chain::Chain;
@@ -13,6 +15,7 @@ use interpolated_gain_curve::Curve;
 use limiter::Limiter;
 use saturation_protector::Protector;
 use speech_level_estimator::{Average, Estimator};
+use units::refusals::{Refusal, check};
 use units::settings::Settings;
 
 // The level of the speech: speech_level_estimator's state.
@@ -146,12 +149,29 @@ impl KeptEnvelope {
 }
 
 impl KeptLimiter {
+    // All 0: what stands where there is no limiter. Every call refuses it.
+    pub fn none() -> KeptLimiter
+        ensures { result ≡ none_limiter }
+    {
+        let limiter = Limiter::none();
+        KeptLimiter::of(limiter)
+    }
+
     // Whether each number that stands for a flag is one.
     pub(crate) fn is_sound(self) -> bool
         ensures { result ≡ sound_limiter self }
     {
         let curve = self.curve;
         is_flag(curve.available)
+    }
+
+    // The state itself, where each number that stands for a flag is one; otherwise it is refused with 4.
+    #[tactic(auto, unfolding(units::specs::Handed::handed, units::specs::Replies::refusal))]
+    pub(crate) fn sound(self) -> Result<KeptLimiter, Refusal>
+        ensures { result ≡ handed (refusal true (sound_limiter self) true true) self }
+    {
+        check(true, self.is_sound(), true, true)?;
+        Ok(self)
     }
 
     // The limiter that is kept: a number that is no flag counts as false.
@@ -202,6 +222,14 @@ impl KeptLimiter {
 }
 
 impl KeptChain {
+    // All 0: what stands where there is no chain. Every call refuses it.
+    pub fn none() -> KeptChain
+        ensures { result ≡ none_chain }
+    {
+        let chain = Chain::none();
+        KeptChain::of(chain)
+    }
+
     // Whether each number that stands for a flag is one.
     pub(crate) fn is_sound(self) -> bool
         ensures { result ≡ sound_chain self }
@@ -211,6 +239,15 @@ impl KeptChain {
         let applier = controller.applier;
         let limiter = self.limiter;
         is_flag(estimator.confident) & is_flag(applier.clip) & limiter.is_sound()
+    }
+
+    // The state itself, where each number that stands for a flag is one; otherwise it is refused with 4.
+    #[tactic(auto, unfolding(units::specs::Handed::handed, units::specs::Replies::refusal))]
+    pub(crate) fn sound(self) -> Result<KeptChain, Refusal>
+        ensures { result ≡ handed (refusal true (sound_chain self) true true) self }
+    {
+        check(true, self.is_sound(), true, true)?;
+        Ok(self)
     }
 
     // The chain that is kept: a number that is no flag counts as false.

@@ -17,8 +17,10 @@ use kept::calls::{
 use kept::states::{KeptChain, KeptLimiter};
 use units::figures::Figures;
 use units::kinds::LinearS16;
-use units::replies::DONE;
 use units::settings::Settings;
+
+// The reply of a call that is done.
+const DONE: u32 = 0;
 
 // The version of the interface: of the functions below and of the structs that they are lent.
 const VERSION: u32 = 3;
@@ -33,6 +35,7 @@ pub extern "C" fn murzicanu_version() -> u32
 
 // Makes a new chain for channels of so many samples, whose protector remembers as many peaks as the capacity says, 1 to
 // 16. Refused with 1 or 4, and then the chain is all 0, which every step refuses.
+#[tactic(auto, unfolding(kept::specs::Calls::told_chain))]
 #[unsafe(no_mangle)]
 pub extern "C" fn murzicanu_chain_new(
     chain: &mut KeptChain,
@@ -44,15 +47,21 @@ pub extern "C" fn murzicanu_chain_new(
     ensures value { result ≡ (chain_made settings.now threshold samples capacity).reply }
     ensures chain_after { chain.new ≡ (chain_made settings.now threshold samples capacity).chain }
 {
-    let given = *settings;
-    let made = make_chain(given, threshold, samples, capacity);
-    *chain = made.chain;
-    made.reply
+    match make_chain(*settings, threshold, samples, capacity) {
+        Ok(made) => {
+            *chain = made;
+            DONE
+        }
+        Err(refusal) => {
+            *chain = KeptChain::none();
+            refusal.number()
+        }
+    }
 }
 
 // Takes a frame with its figures: levels it where it stands, and tells what it was. Refused with 1, 4, 2 or 3, and
 // then nothing is stored in the chain or the frame, and the answer is all 0.
-#[tactic(auto, using(kept::specs::Laws::Calls::chain_refused))]
+#[tactic(auto, unfolding(kept::specs::Calls::told_step))]
 #[unsafe(no_mangle)]
 pub extern "C" fn murzicanu_chain_step(
     chain: &mut KeptChain,
@@ -68,58 +77,77 @@ pub extern "C" fn murzicanu_chain_step(
     ensures frame_after { frame.new ≡ (chain_stepped chain.old figures.now frame.old channels samples).frame }
     ensures scale { result ≡ done → FullScale frame.new }
 {
-    let taken = *chain;
-    let given = *figures;
-    let next = take_frame(taken, given, frame, channels, samples);
-    *answer = next.answer;
-    if next.reply == DONE {
-        *chain = next.chain;
+    match take_frame(*chain, *figures, frame, channels, samples) {
+        Ok(next) => {
+            *chain = next.chain;
+            *answer = next.answer;
+            DONE
+        }
+        Err(refusal) => {
+            *answer = KeptAnswer::none();
+            refusal.number()
+        }
     }
-    next.reply
 }
 
 // Marks a gap: frames were lost, so that those before it and after it are not adjacent. It ends the run of speech, and
 // has no sound. A chain that fails its test is refused with 4, and then nothing is stored in it.
-#[tactic(auto, using(kept::specs::Laws::Gaps::chain_gap_refused))]
+#[tactic(auto, unfolding(kept::specs::Calls::told_chain))]
 #[unsafe(no_mangle)]
 pub extern "C" fn murzicanu_chain_gap(chain: &mut KeptChain) -> u32
     ensures value { result ≡ (chain_gapped chain.old).reply }
     ensures chain_after { chain.new ≡ (chain_gapped chain.old).chain }
 {
-    let taken = *chain;
-    let gapped = mark_gap(taken);
-    if gapped.reply == DONE {
-        *chain = gapped.chain;
+    match mark_gap(*chain) {
+        Ok(after) => {
+            *chain = after;
+            DONE
+        }
+        Err(refusal) => refusal.number(),
     }
-    gapped.reply
 }
 
 // Reads what a chain publishes; a chain that fails its test is refused with 4, and then all is 0.
+#[tactic(auto, unfolding(kept::specs::Calls::told_published))]
 #[unsafe(no_mangle)]
 pub extern "C" fn murzicanu_chain_read(chain: &KeptChain, published: &mut Published) -> u32
     ensures value { result ≡ (chain_read chain.now).reply }
     ensures published_after { published.new ≡ (chain_read chain.now).published }
 {
-    let kept = *chain;
-    let reading = read_chain(kept);
-    *published = reading.published;
-    reading.reply
+    match read_chain(*chain) {
+        Ok(read) => {
+            *published = read;
+            DONE
+        }
+        Err(refusal) => {
+            *published = Published::none();
+            refusal.number()
+        }
+    }
 }
 
 // Makes a new limiter for channels of so many samples; refused with 1, and then the limiter is all 0, which
 // every step refuses.
+#[tactic(auto, unfolding(kept::specs::Calls::told_limiter))]
 #[unsafe(no_mangle)]
 pub extern "C" fn murzicanu_limiter_new(limiter: &mut KeptLimiter, samples: usize) -> u32
     ensures value { result ≡ (limiter_made samples).reply }
     ensures limiter_after { limiter.new ≡ (limiter_made samples).limiter }
 {
-    let made = make_limiter(samples);
-    *limiter = made.limiter;
-    made.reply
+    match make_limiter(samples) {
+        Ok(made) => {
+            *limiter = made;
+            DONE
+        }
+        Err(refusal) => {
+            *limiter = KeptLimiter::none();
+            refusal.number()
+        }
+    }
 }
 
 // Limits a frame where it stands. Refused with 1, 4 or 3, and then nothing is stored in the limiter or the frame.
-#[tactic(auto, using(kept::specs::Laws::Calls::limiter_refused))]
+#[tactic(auto, unfolding(kept::specs::Calls::told_limiter))]
 #[unsafe(no_mangle)]
 pub extern "C" fn murzicanu_limiter_step(
     limiter: &mut KeptLimiter,
@@ -132,22 +160,30 @@ pub extern "C" fn murzicanu_limiter_step(
     ensures frame_after { frame.new ≡ (limiter_stepped limiter.old frame.old channels samples).frame }
     ensures scale { result ≡ done → FullScale frame.new }
 {
-    let taken = *limiter;
-    let limited = limit_frame(taken, frame, channels, samples);
-    if limited.reply == DONE {
-        *limiter = limited.limiter;
+    match limit_frame(*limiter, frame, channels, samples) {
+        Ok(after) => {
+            *limiter = after;
+            DONE
+        }
+        Err(refusal) => refusal.number(),
     }
-    limited.reply
 }
 
 // Reads the limiter's envelope; a limiter that fails its test is refused with 4, and then the level is 0.
+#[tactic(auto, unfolding(kept::specs::Calls::told_level))]
 #[unsafe(no_mangle)]
 pub extern "C" fn murzicanu_limiter_read(limiter: &KeptLimiter, level: &mut LinearS16) -> u32
     ensures value { result ≡ (limiter_read limiter.now).reply }
     ensures level_after { level.new ≡ (limiter_read limiter.now).level }
 {
-    let kept = *limiter;
-    let reading = read_limiter(kept);
-    *level = reading.level;
-    reading.reply
+    match read_limiter(*limiter) {
+        Ok(heard) => {
+            *level = heard;
+            DONE
+        }
+        Err(refusal) => {
+            *level = LinearS16(0.0);
+            refusal.number()
+        }
+    }
 }

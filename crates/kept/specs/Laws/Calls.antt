@@ -2,19 +2,22 @@
 -- Laws. Assumes nothing.
 use Rattle.std.proofs.Math.Path.{◌≡◌, refl, sym, ap}
 use Rattle.std.proofs.Common.{◌∙◌}
-use Rattle.std.specs.Prelude.{Bool, false, ◌&&◌, cond, List, ℕ, length, Float}
+use Rattle.std.specs.Prelude.{Bool, false, ◌&&◌, cond, List, ℕ, length, Float, Ok, Err}
 use Rattle.std.proofs.Math.Bool.{true}
 use borrow.Author.Tests.{eq-eqb, ne_eqb, eqb-false}
 use Rattle.std.proofs.Math.Dec.{eqb}
 use Rattle.units.specs.Figures.{accepted}
+use Rattle.units.specs.Handed.{number_of, handed}
+use Rattle.units.specs.Laws.Handed.{check_number, number_not_done}
 use Rattle.units.specs.Replies.{done, refusal}
+use Rattle.units.specs.declared.refusals.Refusal.{Refusal}
 use Rattle.units.specs.declared.figures.Figures.{Figures}
 use Rattle.frames.specs.Shape.{is_shape}
 use Rattle.frames.specs.Samples.{largest_input, largest_level, all_within}
 use Rattle.frames.specs.Refusal.{frame_refusal}
 use Rattle.limiter.specs.Limiter as Limiting
 use Rattle.limiter.specs.declared.Limiter.{Limiter}
-use Rattle.limiter.specs.declared.Next.{Next as LimiterNext}
+use Rattle.limiter.specs.Limiter.{Next as LimiterNext}
 use Rattle.chain.specs.Answer.{said, non_speech}
 use Rattle.chain.specs.Chain as Chains
 use Rattle.chain.specs.Calls as Chaining
@@ -22,12 +25,10 @@ use Rattle.chain.specs.Laws.Calls.{called_refused}
 use Rattle.chain.specs.declared.Chain.{Chain}
 use Rattle.chain.specs.declared.Next.{Next as ChainNext}
 use Rattle.kept.specs.States.{envelope_of, sound_limiter, limiter_of, kept_limiter, sound_chain, chain_of, kept_chain}
-use Rattle.kept.specs.Calls.{limiter_passes, LimiterStepped, limiter_stepped, chain_passes, kept_answer, ChainStepped, chain_stepped}
+use Rattle.kept.specs.Calls.{NewLimiter, limiter_passes, LimiterStepped, limiter_stepped, chain_passes, kept_answer, NextChain, ChainStepped, chain_stepped}
 use Rattle.kept.specs.declared.states.KeptLimiter.{KeptLimiter}
 use Rattle.kept.specs.declared.states.KeptChain.{KeptChain}
 use Rattle.kept.specs.declared.calls.KeptAnswer.{KeptAnswer}
-use Rattle.kept.specs.declared.calls.NewLimiter.{NewLimiter}
-use Rattle.kept.specs.declared.calls.NextChain.{NextChain}
 
 -- a state that fails is refused with 1 or 4, whatever the figures and the samples are
 state_fails : (shape figure sample : Bool) → refusal shape false figure sample ≡ refusal shape false true true
@@ -48,6 +49,13 @@ failing frame channels samples set setting figure bound h =
     ap (λ (b : Bool). refusal shape b figure (all_within bound frame)) h ∙ state_fails shape figure (all_within bound frame)
 
 -- ---- the limiter
+-- the number of the limiter's refusal is its reply
+pub limiter_number : (l : Limiter) (frame : List Float) (channels samples : ℕ) (made : Limiter) (e : Refusal)
+    → Err e ≡ handed (Limiting.processed l frame channels samples).next.reply made → number_of e ≡ (Limiting.processed l frame channels samples).next.reply
+unfolding Limiting.processed frame_refusal
+limiter_number l frame channels samples made e h =
+    check_number (is_shape channels samples (length frame) && eqb samples l.estimator.samples) (Limiting.passes l) true (all_within largest_level frame) made e h
+
 limiter_passes_inside : (k : KeptLimiter) → sound_limiter k ≡ true → limiter_passes k ≡ Limiting.passes (limiter_of k)
 unfolding limiter_passes
 limiter_passes_inside k h = ap (λ (b : Bool). b && Limiting.passes (limiter_of k)) h
@@ -229,12 +237,12 @@ module _ (k : KeptChain) (f : Figures) (frame : List Float) (channels samples : 
 
   -- What the code's calls come to is the definition's: where the chain's step is done,
   pub chain_joined : {c : Chain} (n : ChainNext) {t : KeptAnswer} {a : KeptChain} {out : List Float} → sound_chain k ≡ true → c ≡ chain_of k
-      → Chaining.told n ≡ (Chaining.called c f frame channels samples).told → out ≡ (Chaining.called c f frame channels samples).frame → n.reply ≡ done → t ≡ kept_answer (said n.answer) → a ≡ kept_chain n.chain
+      → Chaining.told c (Ok n) ≡ (Chaining.called c f frame channels samples).told → out ≡ (Chaining.called c f frame channels samples).frame → t ≡ kept_answer (said n.answer) → a ≡ kept_chain n.chain
       → (◌≡◌ {A = NextChain} (record { reply = done; answer = t; chain = a }) (chain_stepped k f frame channels samples).next) × (out ≡ (chain_stepped k f frame channels samples).frame)
   unfolding kept_call Chaining.told
-  chain_joined n h ec en eo d et ea =
+  chain_joined n h ec en eo et ea =
       let same = en ∙ ap (λ (z : Chain). (Chaining.called z f frame channels samples).told) ec in
-      let r = sym d ∙ ap (λ (z : Chaining.Told). z.reply) same in
+      let r = ap (λ (z : Chaining.Told). z.reply) same in
       let t' = et ∙ ap (λ (z : Chaining.Told). kept_answer z.answer) same in
       let a' = ea ∙ ap (λ (z : Chaining.Told). kept_chain z.chain) same in
       let next : ◌≡◌ {A = NextChain} (record { reply = done; answer = _; chain = _ }) (kept_call inside).next = λ i. record { reply = r i; answer = t' i; chain = a' i } in (
@@ -243,13 +251,13 @@ module _ (k : KeptChain) (f : Figures) (frame : List Float) (channels samples : 
       )
 
   -- where it is refused,
-  pub chain_let_be : {c : Chain} (n : ChainNext) {t : KeptAnswer} {out : List Float} → sound_chain k ≡ true → c ≡ chain_of k
-      → Chaining.told n ≡ (Chaining.called c f frame channels samples).told → out ≡ (Chaining.called c f frame channels samples).frame → (n.reply ≡ done → ⊥) → t ≡ kept_answer non_speech
-      → (◌≡◌ {A = NextChain} (record { reply = n.reply; answer = t; chain = k }) (chain_stepped k f frame channels samples).next) × (out ≡ (chain_stepped k f frame channels samples).frame)
+  pub chain_let_be : {c : Chain} (e : Refusal) {t : KeptAnswer} {out : List Float} → sound_chain k ≡ true → c ≡ chain_of k
+      → Chaining.told c (Err e) ≡ (Chaining.called c f frame channels samples).told → out ≡ (Chaining.called c f frame channels samples).frame → t ≡ kept_answer non_speech
+      → (◌≡◌ {A = NextChain} (record { reply = number_of e; answer = t; chain = k }) (chain_stepped k f frame channels samples).next) × (out ≡ (chain_stepped k f frame channels samples).frame)
   unfolding Chaining.told
-  chain_let_be {c} n {t} {out} h ec en eo d et =
-      let r : n.reply ≡ inside.told.reply = ap (λ (z : Chaining.Told). z.reply) (en ∙ ap (λ (z : Chain). (Chaining.called z f frame channels samples).told) ec) in
-      let d' : inside.told.reply ≡ done → ⊥ = λ (e : inside.told.reply ≡ done). d (r ∙ e) in
+  chain_let_be {c} e {t} {out} h ec en eo et =
+      let r : number_of e ≡ inside.told.reply = ap (λ (z : Chaining.Told). z.reply) (en ∙ ap (λ (z : Chain). (Chaining.called z f frame channels samples).told) ec) in
+      let d' : inside.told.reply ≡ done → ⊥ = λ (z : inside.told.reply ≡ done). number_not_done e (r ∙ z) in
       let same : out ≡ frame = eo ∙ ap (λ (z : Chain). (Chaining.called z f frame channels samples).frame) ec ∙ ap (λ (z : Chaining.Called). z.frame) (called_refused (chain_of k) f frame channels samples called_reply d') in
       rw (r, et, same, chain_not_inside h d') (refl, refl)
 

@@ -16,16 +16,14 @@ use Rattle.chain.specs.Held as ChainHeld
 use Rattle.chain.specs.Laws.Gaps as ChainGaps
 use Rattle.chain.specs.Laws.Passing as ChainPassing
 use Rattle.chain.specs.declared.Chain.{Chain}
-use Rattle.chain.specs.declared.Gapped.{Gapped}
+use Rattle.chain.specs.Calls.{Gapped}
 use Rattle.kept.specs.States.{kept_limiter, number_of, sound_chain, chain_of, kept_chain}
-use Rattle.kept.specs.Calls.{chain_passes, chain_gapped, kept_published, chain_read}
+use Rattle.kept.specs.Calls.{NewChain, chain_passes, chain_gapped, kept_published, Reading, chain_read}
 use Rattle.kept.specs.Laws.States.{number_back, limiter_back, chain_kept, flags}
 use Rattle.kept.specs.Laws.Passing.{kept_chain_passes}
 use Rattle.kept.specs.declared.states.KeptApplier.{KeptApplier}
 use Rattle.kept.specs.declared.states.KeptChain.{KeptChain}
-use Rattle.kept.specs.declared.calls.NewChain.{NewChain}
 use Rattle.kept.specs.declared.calls.Published.{Published}
-use Rattle.kept.specs.declared.calls.Reading.{Reading}
 
 -- by a test that is one or the other
 by_test : {P : Type 0} (b : Bool) → (b ≡ true → P) → (b ≡ false → P) → P

@@ -1,5 +1,5 @@
 -- `kept::calls::answer_as_numbers` meets its contract: case by case. Assumes nothing.
-use mathlib.Core.Path.{sym, ap}
+use mathlib.Core.Path.{sym, ap, ◌∙◌}
 use Rattle.chain.specs.Answer.{said}
 use Rattle.chain.specs.declared.Answer.{Answer}
 use Rattle.kept.specs.Calls.{kept_answer}
@@ -7,7 +7,7 @@ use Rattle.kept.proofs.calls.answer_as_numbers.Goals as goal
 
 pub returns-in-NonSpeech : goal.returns-in-NonSpeech
 unfolding said kept_answer
-returns-in-NonSpeech c = ap (λ (a : Answer). kept_answer (said a)) (sym c.in-NonSpeech.is)
+returns-in-NonSpeech c = c.none.ensures ∙ ap (λ (a : Answer). kept_answer (said a)) (sym c.in-NonSpeech.is)
 
 pub returns-in-Waiting : goal.returns-in-Waiting
 unfolding said kept_answer

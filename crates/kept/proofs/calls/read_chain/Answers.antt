@@ -1,25 +1,22 @@
--- `kept::calls::read_chain` meets its contract: what the chain tells, or it is refused. Assumes nothing.
-use mathlib.Core.Bool.{true}
-use mathlib.Core.Path.{◌≡◌, sym, ◌∙◌}
-use Rattle.chain.specs.Calls as Chaining
-use Rattle.chain.specs.declared.Chain.{Chain}
-use Rattle.kept.specs.States.{sound_chain, chain_of}
-use Rattle.kept.specs.declared.states.KeptChain.{KeptChain}
-use Rattle.kept.specs.Calls.{kept_published, chain_read}
-use Rattle.kept.specs.declared.calls.Reading.{Reading}
-use Rattle.kept.specs.declared.calls.Published.{Published}
-use Rattle.chain.specs.declared.Reading.{Reading as ChainReading}
+-- `kept::calls::read_chain` meets its contract. Assumes nothing.
+use Rattle.std.proofs.Common.{ap, ◌∙◌, Err}
+use Rattle.std.proofs.lemmas.Result.{err_from_is_err_and}
+use Rattle.kept.specs.Calls.{told_published}
+use Rattle.kept.proofs.Told.{read_unsound, read_refused, read_told}
 use Rattle.kept.proofs.calls.read_chain.Goals as goal
 
--- the answer, with what the calls gave
-handed : (k : KeptChain) {c : Chain} {told : ChainReading} {p : Published} → sound_chain k ≡ true → c ≡ chain_of k → told ≡ Chaining.published_told c → p ≡ kept_published told.published
-    → ◌≡◌ {A = Reading} (record { reply = told.reply; published = p }) (chain_read k)
-unfolding chain_read
-handed k s e t p = rw (p, t, e, s)
+pub returns-in_err-sound : goal.returns-in_err-sound
+returns-in_err-sound c =
+    let out = err_from_is_err_and c.from_residual.result c.from_residual.ensures.1 in
+    rw (out.1 ∙ ap Err out.2) (read_unsound c.args.kept c.in_err-sound.field-0.0 c.in_err-sound.ensures)
 
-pub returns-then-is_sound : goal.returns-then-is_sound
-returns-then-is_sound c = handed _ (sym c.is_sound.ensures ∙ c.if-is_sound.true) c.chain-chain.ensures c.published-told.ensures c.published_as_numbers.ensures
+pub returns-in_err-published : goal.returns-in_err-published
+returns-in_err-published c =
+    let out = err_from_is_err_and c.from_residual-in_err-published.result c.from_residual-in_err-published.ensures.1 in
+    rw (out.1 ∙ ap Err out.2) (read_refused c.args.kept c.in_ok-sound.sound c.in_err-published.field-0.0 c.in_ok-sound.ensures (rw c.chain-chain.ensures at c.in_err-published.ensures))
 
-pub returns-else-is_sound : goal.returns-else-is_sound
-unfolding chain_read kept_published
-returns-else-is_sound c = let s = sym c.is_sound.ensures ∙ c.if-is_sound.false in rw s
+pub returns : goal.returns
+unfolding told_published
+returns c =
+    rw c.published_as_numbers.ensures
+    (read_told c.args.kept c.in_ok-sound.sound c.in_ok-published.published c.in_ok-sound.ensures (rw c.chain-chain.ensures at c.in_ok-published.ensures))

@@ -1,32 +1,31 @@
 -- `kept::calls::take_frame` meets its contract: the step is that of the chain inside, or it is refused. Assumes nothing.
-use mathlib.Core.Path.{◌≡◌, sym, ◌∙◌}
-use Rattle.units.specs.Replies.{done}
+use Rattle.std.proofs.Common.{refl, sym, ap, ◌∙◌, Err}
+use Rattle.std.proofs.lemmas.Result.{err_from_is_err_and}
 use Rattle.kept.specs.States.{envelope_of, limiter_of, chain_of}
-use Rattle.chain.specs.Answer.{said}
+use Rattle.kept.specs.Calls.{told_step}
 use Rattle.kept.specs.Laws.Calls.{chain_joined, chain_let_be, chain_turned_away}
 use Rattle.kept.proofs.calls.take_frame.Goals as goal
 
-pub returns-then-next-eq-DONE : goal.returns-then-next-eq-DONE
-returns-then-next-eq-DONE c =
-    let p = c in
-    let t = p in
-    let a = t.args in
-    let j = chain_joined a.kept a.figures a.frame.now a.channels a.samples p.step-next.result (sym t.is_sound.ensures ∙ t.if-is_sound.true) p.chain-chain.ensures p.step-next.ensures.result_value p.step-next.ensures.frame_after c.if-next-eq-DONE.true c.answer_as_numbers.ensures c.of.ensures in
-    record { value = j.0; frame_after = j.1; scale = λ (h : _). p.step-next.ensures.scale c.if-next-eq-DONE.true }
+pub returns-in_err-next : goal.returns-in_err-next
+unfolding told_step
+returns-in_err-next c =
+    let a = c.args in
+    let refused = c.in_err-next.ensures in
+    let out = err_from_is_err_and c.from_residual.result c.from_residual.ensures.1 in
+    let j = chain_let_be a.kept a.figures a.frame.now a.channels a.samples c.in_err-next.field-0.0 (sym c.is_sound.ensures ∙ c.if-is_sound.true) c.chain-chain.ensures refused.result_value refused.frame_after refl in
+    record { value = rw (out.1 ∙ ap Err out.2) j.0; frame_after = j.1; scale = rw out.1 tt }
 
-pub returns-else-next-eq-DONE : goal.returns-else-next-eq-DONE
-unfolding said
-returns-else-next-eq-DONE c =
-    let p = c in
-    let t = p in
-    let a = t.args in
-    let j = chain_let_be a.kept a.figures a.frame.now a.channels a.samples p.step-next.result (sym t.is_sound.ensures ∙ t.if-is_sound.true) p.chain-chain.ensures p.step-next.ensures.result_value p.step-next.ensures.frame_after c.if-next-eq-DONE.false c.answer_as_numbers-else-next-eq-DONE.ensures in
-    record { value = j.0; frame_after = j.1; scale = p.step-next.ensures.scale }
+pub returns-in_ok-next : goal.returns-in_ok-next
+unfolding told_step
+returns-in_ok-next c =
+    let a = c.args in
+    let gone = c.in_ok-next.ensures in
+    let j = chain_joined a.kept a.figures a.frame.now a.channels a.samples c.in_ok-next.next (sym c.is_sound.ensures ∙ c.if-is_sound.true) c.chain-chain.ensures gone.result_value gone.frame_after c.answer_as_numbers.ensures c.of.ensures in
+    record { value = j.0; frame_after = j.1; scale = gone.scale }
 
 pub returns-else-is_sound : goal.returns-else-is_sound
-unfolding said chain_of limiter_of envelope_of
+unfolding told_step chain_of limiter_of envelope_of
 returns-else-is_sound c =
-    let t = c in
-    let a = t.args in
-    let j = chain_turned_away a.kept a.figures a.frame.now a.channels a.samples (sym t.is_sound.ensures ∙ t.if-is_sound.false) c.answer_as_numbers-else-is_sound.ensures c.refuse_state.ensures in
-    record { value = j.0; frame_after = j.1; scale = λ (h : c.refuse_state.result ≡ done). absurd (j.2 h) }
+    let a = c.args in
+    let j = chain_turned_away a.kept a.figures a.frame.now a.channels a.samples (sym c.is_sound.ensures ∙ c.if-is_sound.false) refl c.refuse_state.ensures in
+    record { value = j.0; frame_after = j.1; scale = tt }

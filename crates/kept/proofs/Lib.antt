@@ -1,0 +1,2 @@
+-- Lemmas that several proofs share.
+pub mod Told
