@@ -46,6 +46,7 @@ pub struct Controller {
 }
 
 // The gain that brings a level to the headroom below full scale, from 0 to the largest gain.
+#[tactic(auto, unfolding(crate::specs::Target::wanted))]
 fn wanted(level: f32, headroom: f32, largest: f32) -> f32
     ensures { result ≡ wanted level headroom largest }
 {
@@ -55,6 +56,7 @@ fn wanted(level: f32, headroom: f32, largest: f32) -> f32
 }
 
 // A gain that does not lift the noise above the loudest that it may be.
+#[tactic(auto, unfolding(crate::specs::Target::under_noise))]
 fn under_noise(gain: f32, noise: f32, loudest: f32) -> f32
     ensures { result ≡ under_noise gain noise loudest }
 {
@@ -62,6 +64,7 @@ fn under_noise(gain: f32, noise: f32, loudest: f32) -> f32
 }
 
 // A gain that, while the level is not trusted, does not bring the limiter's envelope above its bound.
+#[tactic(auto, unfolding(crate::specs::Target::under_envelope))]
 fn under_envelope(gain: f32, last: f32, envelope: f32, reliable: bool) -> f32
     ensures { result ≡ under_envelope gain last envelope reliable }
 {
@@ -71,6 +74,7 @@ fn under_envelope(gain: f32, last: f32, envelope: f32, reliable: bool) -> f32
 }
 
 // By how many dB the gain may change in a frame of 10 ms.
+#[tactic(auto, unfolding(crate::specs::Change::per_frame))]
 fn per_frame(change: f32) -> f32
     ensures { result ≡ per_frame change }
 {
@@ -79,11 +83,12 @@ fn per_frame(change: f32) -> f32
 
 // How many adjacent speech frames are still to come after a frame: one less in speech, and all of them
 // after any other frame.
+#[tactic(auto, unfolding(crate::specs::Change::waits))]
 fn waits(speech: bool, threshold: u32, waiting: u32) -> u32
     ensures { result ≡ waits speech threshold waiting }
 {
     if speech {
-        if 0 < waiting { waiting - 1 } else { 0 }
+        waiting.saturating_sub(1)
     } else {
         threshold
     }
@@ -91,6 +96,7 @@ fn waits(speech: bool, threshold: u32, waiting: u32) -> u32
 
 // By how many dB the gain may rise in a frame that ends the waiting: once for each frame that was waited
 // for. In any other frame it is the change of one.
+#[tactic(auto, unfolding(crate::specs::Change::increase))]
 fn increase(first: bool, threshold: u32, change: f32) -> f32
     ensures { result ≡ increase first threshold change }
 {
@@ -100,6 +106,7 @@ fn increase(first: bool, threshold: u32, change: f32) -> f32
 
 // By how many dB the gain changes: the difference to the target, which is not above 0 while the gain may
 // not rise, and never more than what a frame may bring.
+#[tactic(auto, unfolding(crate::specs::Change::changed))]
 fn changed(target: f32, gain: f32, allowed: bool, most: f32, rise: f32) -> f32
     ensures { result ≡ changed target gain allowed most rise }
 {
@@ -110,18 +117,20 @@ fn changed(target: f32, gain: f32, allowed: bool, most: f32, rise: f32) -> f32
 
 impl Info {
     // Whether each figure lies in its range.
+    #[tactic(auto, unfolding(crate::specs::Controller::accepted))]
     fn accepted(self) -> bool
         ensures { result ≡ accepted self }
     {
         units::figures::is_probability(self.probability)
-            & units::figures::is_level(Dbfs(self.level.0))
-            & units::figures::is_level(Dbfs(self.noise.0))
-            & units::figures::is_headroom(Db(self.headroom.0))
-            & units::figures::is_envelope(Dbfs(self.envelope.0))
+            & units::figures::is_level(self.level)
+            & units::figures::is_level(self.noise)
+            & units::figures::is_headroom(self.headroom)
+            & units::figures::is_envelope(self.envelope)
     }
 }
 
 // The gain that a frame asks for: by its level, then by its noise, then by low confidence.
+#[tactic(auto, unfolding(crate::specs::Target::target))]
 fn target(settings: Settings, gain: f32, info: Info) -> f32
     ensures { result ≡ target settings gain info }
 {
@@ -171,9 +180,8 @@ impl Controller {
     {
         let ok = settings.accepted() & units::settings::is_threshold(threshold);
         check(true, ok, true, true)?;
-        let initial = settings.initial.0;
         // An initial gain that is accepted has a ratio, and the ratio is a gain factor.
-        let ratio = decibels::ratio(Db(initial))?;
+        let ratio = decibels::ratio(settings.initial)?;
         let applier = Applier::new(false, ratio)?;
         Ok(Controller {
             applier,
@@ -181,29 +189,29 @@ impl Controller {
             threshold,
             change: per_frame(settings.change),
             waiting: threshold,
-            gain: initial,
+            gain: settings.initial.0,
         })
     }
 
     // Whether a handed-in state passes: settings and threshold in their ranges, the change of a frame that
     // the settings give, a waiting count up to the threshold, a gain from 0 to 51, and an applier that
     // passes with factors up to 355.
+    #[tactic(auto, unfolding(crate::specs::Controller::passes))]
     pub fn passes(self) -> bool
         ensures { result ≡ passes self }
     {
-        let settings = self.settings;
-        let applier = self.applier;
-        settings.accepted()
+        self.settings.accepted()
             & units::settings::is_threshold(self.threshold)
-            & (self.change == per_frame(settings.change))
+            & (self.change == per_frame(self.settings.change))
             & (self.waiting <= self.threshold)
             & units::figures::is_gain(Db(self.gain))
-            & applier.passes()
-            & (applier.last <= LARGEST)
-            & (applier.current <= LARGEST)
+            & self.applier.passes()
+            & (self.applier.last <= LARGEST)
+            & (self.applier.current <= LARGEST)
     }
 
     // The controller with the gain that a frame asks for, before the frame is scaled.
+    #[tactic(auto, unfolding(crate::specs::Controller::decided))]
     fn decided(self, info: Info) -> Controller
         ensures { result ≡ decided self info }
     {
