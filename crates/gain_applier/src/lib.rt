@@ -39,6 +39,7 @@ pub struct Applier {
 }
 
 // Whether a gain factor is so close to 1 that it would not change a sample of 16 bits.
+#[tactic(auto, unfolding(crate::specs::Sound::close_to_one))]
 fn is_close_to_one(gain: f32) -> bool
     ensures { result ≡ close_to_one gain }
 {
@@ -135,6 +136,7 @@ fn clip_samples(part: &mut [f32])
 }
 
 // Clips a frame if that is set.
+#[tactic(auto, unfolding(crate::specs::Sound::finished))]
 fn finish(frame: &mut [f32], clip: bool)
     ensures { frame.new ≡ finished clip frame.old }
 {
@@ -178,6 +180,7 @@ fn put_gain(
 }
 
 // 1 over the samples as f32.
+#[tactic(auto, unfolding(crate::specs::Applier::inverse_of))]
 fn inverse_of(samples: i32) -> f32
     ensures { result ≡ inverse_of samples }
 {
@@ -227,6 +230,7 @@ impl Applier {
 
     // Whether a handed-in state passes: both factors in range, samples that are -1 or a frame's, and 1
     // over them beside them.
+    #[tactic(auto, unfolding(crate::specs::Applier::passes))]
     pub fn passes(self) -> bool
         ensures { result ≡ passes self }
     {
