@@ -3,9 +3,9 @@
 
 #![tactic(auto)]
 
-mod squares;
-
-ghost use Rattle.std.specs.Prelude.{◌≡◌, ◌*◌, List, length, Float};
+ghost use Rattle.std.specs.Prelude.{◌≡◌, ◌*◌, Bool, T, List, length, Float};
+ghost use Rattle.std.specs.Float.{binary32};
+ghost use Rattle.std.specs.Float.Ieee.{fits};
 ghost use Rattle.frames.specs.Parts.{each_part};
 ghost use Rattle.frames.specs.Shape.{is_samples, is_shape};
 ghost use Rattle.frames.specs.Samples.{within, all_within};
@@ -26,6 +26,7 @@ const INPUT_SQUARE: f32 = 4294967296.0;
 const LEVEL_SQUARE: f32 = 1125899906842624.0;
 
 // Whether a channel may have this many samples: 40 to 480, in a multiple of 20.
+#[tactic(auto, unfolding(crate::specs::Shape::is_samples))]
 pub fn is_samples(samples: usize) -> bool
     ensures { result ≡ is_samples samples }
 {
@@ -43,41 +44,37 @@ pub fn is_shape(channels: usize, samples: usize, length: usize) -> bool
     small & (length == c * s)
 }
 
-// Whether a sample is a number whose magnitude is at most the bound.
-fn is_within(bound: f32, x: f32) -> bool
-    ensures { result ≡ within bound x }
-{
-    floats::magnitude(x) <= bound
-}
-
-// Whether every sample of the frame is within any bound. It looks at each sample, whatever it finds.
-fn are_all_within(bound: f32, frame: &[f32]) -> bool
-    ensures { result ≡ all_within bound frame.now }
+// Whether each sample of the frame passes a test, which says of a sample whether it is within a bound. It looks at each,
+// whatever it finds, so that no branch stands between them.
+fn is_each<F: Fn(f32) -> bool>(frame: &[f32], test: F) -> bool
+    requires { F.IsAlwaysCallable test }
+    ensures { (bound : Float) → ((x : Float) (r : Bool) → T (fits binary32 x) → F.post test x r → r ≡ within bound x) → result ≡ all_within bound frame.now }
 {
     let mut ok = true;
     for x in frame {
-        ok = ok & is_within(bound, *x);
+        ok = ok & test(*x);
     }
     ok
 }
 
-// Whether every sample of the frame is within the bound. The two bounds above are powers of two, and
-// for them a sample's square tells it sooner.
+// Whether every sample of the frame is a number whose magnitude is at most the bound. The two bounds above are powers of
+// two: for them a sample's square tells the same, in fewer operations. A NaN passes neither test, nor does an infinity.
 pub fn are_within(bound: f32, frame: &[f32]) -> bool
     ensures { result ≡ all_within bound frame.now }
 {
     if bound == LARGEST_INPUT {
-        squares::are_within(LARGEST_INPUT, INPUT_SQUARE, frame)
+        is_each(frame, |x| x * x <= INPUT_SQUARE)
     } else if bound == LARGEST_LEVEL {
-        squares::are_within(LARGEST_LEVEL, LEVEL_SQUARE, frame)
+        is_each(frame, |x| x * x <= LEVEL_SQUARE)
     } else {
-        are_all_within(bound, frame)
+        is_each(frame, |x| floats::magnitude(x) <= bound)
     }
 }
 
 // Refuses with the first that applies to a frame, in the order 1, 4, 2, 3. Of the caller's own tests, set
 // says that the samples are those that its state was set to, setting that its settings and its state
 // pass, and figure that its figures do.
+#[tactic(auto, unfolding(crate::specs::Refusal::frame_refusal))]
 pub fn check(
     frame: &[f32],
     channels: usize,
