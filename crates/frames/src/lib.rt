@@ -37,11 +37,9 @@ pub fn is_samples(samples: usize) -> bool
 pub fn is_shape(channels: usize, samples: usize, length: usize) -> bool
     ensures { result ≡ is_shape channels samples length }
 {
-    // The product is taken only of numbers that are in their ranges, so that it cannot wrap.
     let small = (1 <= channels) & (channels <= 8) & is_samples(samples);
-    let c = floats::pick(small, channels, 0);
-    let s = floats::pick(small, samples, 0);
-    small & (length == c * s)
+    // The product is taken only of numbers that are in their ranges, so that it cannot wrap.
+    small && length == channels * samples
 }
 
 // Whether each sample of the frame passes a test, which says of a sample whether it is within a bound. It looks at each,
