@@ -16,24 +16,16 @@ ghost use Rattle.std.specs.Prelude.{◌≤◌};
 use parts::{Ask, Outcome};
 use std::io::Read;
 
-// The bytes of a line, with its line feed.
-const LINE: usize = 45;
+// A line: five figures, with a byte behind each.
+type Line = [u8; 45];
 
-// The figure at a place of the input: 0 where there is none.
-fn figure(input: &[u8], at: usize) -> u32 {
-    let word = words::read(input, at);
-    word.bits
-}
-
-// A size as asked, but no larger than the largest.
-fn at_most(largest: u32, n: u32) -> usize
-    ensures { result ≤ largest }
-{
-    if n < largest {
-        n as usize
-    } else {
-        largest as usize
-    }
+// The figure of eight digits that stands at a place of a line. Whatever is no digit counts as 0.
+fn figure(line: &Line, at: usize) -> u32 {
+    let digits = line.map(|byte| match byte {
+        b'0'..=b'9' | b'a'..=b'f' => byte,
+        _ => b'0',
+    });
+    words::read(&digits, at).unwrap_or(0)
 }
 
 // What the part that is asked for makes of frames of that size.
@@ -55,26 +47,24 @@ fn outcome(part: u32, sound: u32, channels: usize, samples: usize, frames: u32) 
 
 // Writes the answer to a line. Where that fails, nothing comes of it.
 fn write(rt: &HostRuntime, outcome: Outcome) {
-    let refused = if outcome.refused { 1 } else { 0 };
     let mut line = *b"00000000 00000000\n";
     words::put(&mut line, 0, outcome.digest);
-    words::put(&mut line, 9, refused);
+    words::put(&mut line, 9, u32::from(outcome.refused));
     let _ = rt.write_all(&line);
 }
 
-// Answers each line.
+// Answers each line. What is behind the last whole one is none.
 fn answer(rt: &HostRuntime, input: &[u8]) {
-    let mut at = 0;
-    while LINE <= input.len() - at {
+    let (lines, _) = input.as_chunks::<45>();
+    for line in lines {
         let made = outcome(
-            figure(input, at),
-            figure(input, at + 9),
-            at_most(8, figure(input, at + 18)),
-            at_most(480, figure(input, at + 27)),
-            figure(input, at + 36),
+            figure(line, 0),
+            figure(line, 9),
+            figure(line, 18).min(8) as usize,
+            figure(line, 27).min(480) as usize,
+            figure(line, 36),
         );
         write(rt, made);
-        at += LINE;
     }
 }
 

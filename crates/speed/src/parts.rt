@@ -1,9 +1,8 @@
-// Each part over as many frames as asked. Every function here has the same loop: the digest takes what became
-// of the frame before, the frame and its figures are made anew, and the part does its work on them. What it
-// answers is the digest before the last frame, and whether any frame was refused. A part that is added has a
-// function here, a line in `work` and its twin in oracle/speed.
+// Each part over as many frames as asked. A part that is added has a function here, a line in `work` and its twin
+// in oracle/speed.
 
 use crate::sound;
+use crate::sound::Tape;
 use adaptive_digital_gain_controller::{Controller, Info};
 use chain::Chain;
 use fixed_digital_level_estimator::Estimator;
@@ -11,9 +10,10 @@ use gain_applier::Applier;
 use interpolated_gain_curve::Curve;
 use limiter::Limiter;
 use saturation_protector::Protector;
+use speech_level_estimator::Estimator as SpeechLevel;
 use units::figures::Figures;
 use units::kinds::{Db, Dbfs, LinearS16};
-use units::replies::DONE;
+use units::refusals::Refusal;
 use units::settings::Settings;
 
 // How many adjacent speech frames a run needs to count, the headroom to start with, and how many peaks the ring holds: the
@@ -42,6 +42,16 @@ pub struct Outcome {
     pub refused: bool,
 }
 
+impl Outcome {
+    // The digest with some more floats.
+    fn with(self, list: &[f32]) -> Outcome {
+        Outcome {
+            digest: sound::digest(self.digest, list),
+            refused: self.refused,
+        }
+    }
+}
+
 // The parts' numbers.
 const SPEECH_LEVEL: u32 = 1;
 
@@ -65,72 +75,54 @@ const LIMITER: u32 = 10;
 
 const CHAIN: u32 = 11;
 
-// Only the frame, the figures and the digest: what each of the others has besides its own work.
-fn nothing(frame: &mut [f32], ask: Ask) -> Outcome {
+// Runs a part over the frames: the digest takes what became of the frame before, the frame and its figures are made
+// anew, and the part does its work on them. What comes of it is the digest before the last frame, and whether the part
+// refused any.
+fn over<F: FnMut(&mut [f32], Tape, u32) -> Result<(), Refusal>>(
+    frame: &mut [f32],
+    ask: Ask,
+    mut work: F,
+) -> Outcome
+    requires { F.IsAlwaysCallable work }
+{
     let mut tape = sound::start();
-    let frames = ask.frames;
-    let mut k: u32 = 0;
-    while k < frames {
-        let number = k;
-        k += 1;
+    let mut refused = false;
+    for number in 0..ask.frames {
         tape = sound::turn(frame, tape, ask.sound, number);
+        refused |= work(frame, tape, number).is_err();
     }
     Outcome {
         digest: tape.digest,
-        refused: false,
+        refused,
     }
+}
+
+// Only the frame, the figures and the digest: what each of the others has besides its own work.
+fn nothing(frame: &mut [f32], ask: Ask) -> Outcome {
+    over(frame, ask, |_, _, _| Ok(()))
 }
 
 // The level of the speech. The digest ends with it.
 fn hear(frame: &mut [f32], ask: Ask) -> Outcome {
-    let new = speech_level_estimator::Estimator::new(Settings::usual(), THRESHOLD);
-    let mut estimator = new.estimator;
-    let mut tape = sound::start();
-    let mut refused = false;
-    let frames = ask.frames;
-    let mut k: u32 = 0;
-    while k < frames {
-        let number = k;
-        k += 1;
-        tape = sound::turn(frame, tape, ask.sound, number);
-        let figures = tape.figures;
-        let next = estimator.update(Dbfs(figures.rms.0), figures.probability);
-        let after = next.estimator;
-        estimator = after;
-        refused = refused | (next.reply != DONE);
-    }
-    Outcome {
-        digest: sound::mix(tape.digest, estimator.level),
-        refused,
-    }
+    let new = SpeechLevel::new(Settings::usual(), THRESHOLD);
+    let mut estimator = new.unwrap_or(SpeechLevel::none());
+    let made = over(frame, ask, |_, tape, _| {
+        estimator = estimator.update(tape.figures.rms, tape.figures.probability)?;
+        Ok(())
+    });
+    made.with(&[estimator.level])
 }
 
 // The headroom by the recent peaks, with their ring. The digest ends with it.
 fn protect(frame: &mut [f32], ask: Ask) -> Outcome {
     let new = Protector::new(Db(INITIAL), THRESHOLD, RING);
-    let mut protector = new.protector;
-    let mut tape = sound::start();
-    let mut refused = false;
-    let frames = ask.frames;
-    let mut k: u32 = 0;
-    while k < frames {
-        let number = k;
-        k += 1;
-        tape = sound::turn(frame, tape, ask.sound, number);
+    let mut protector = new.unwrap_or(Protector::none());
+    let made = over(frame, ask, |_, tape, _| {
         let figures = tape.figures;
-        let next = protector.analyze(
-            figures.probability,
-            Dbfs(figures.peak.0),
-            Dbfs(figures.rms.0),
-        );
-        let after = next.protector;
-        protector = after;
-        refused = refused | (next.reply != DONE);
-    }
-    Outcome {
-        digest: sound::mix(tape.digest, protector.headroom),
-        refused,
-    }
+        protector = protector.analyze(figures.probability, figures.peak, figures.rms)?;
+        Ok(())
+    });
+    made.with(&[protector.headroom])
 }
 
 // What the controller is told of a frame: its figures, with a headroom from 12 to 20, and a level that is trusted in
@@ -138,242 +130,128 @@ fn protect(frame: &mut [f32], ask: Ask) -> Outcome {
 fn info(figures: Figures, number: u32) -> Info {
     Info {
         probability: figures.probability,
-        level: Dbfs(figures.rms.0),
+        level: figures.rms,
         reliable: number % 16 < 8,
-        noise: Dbfs(figures.noise.0),
+        noise: figures.noise,
         headroom: Db(figures.probability * 8.0 + 12.0),
-        envelope: Dbfs(figures.envelope.0),
+        envelope: figures.envelope,
     }
 }
 
 // The gain controller.
 fn control(frame: &mut [f32], ask: Ask) -> Outcome {
     let new = Controller::new(Settings::usual(), THRESHOLD);
-    let mut controller = new.controller;
-    let mut tape = sound::start();
-    let mut refused = false;
-    let frames = ask.frames;
-    let mut k: u32 = 0;
-    while k < frames {
-        let number = k;
-        k += 1;
-        tape = sound::turn(frame, tape, ask.sound, number);
-        let figures = tape.figures;
-        let next = controller.process(info(figures, number), frame, ask.channels, ask.samples);
-        let after = next.controller;
-        controller = after;
-        refused = refused | (next.reply != DONE);
-    }
-    Outcome {
-        digest: tape.digest,
-        refused,
-    }
+    let mut controller = new.unwrap_or(Controller::none());
+    over(frame, ask, |frame, tape, number| {
+        let known = info(tape.figures, number);
+        controller = controller.process(known, frame, ask.channels, ask.samples)?;
+        Ok(())
+    })
 }
 
-// The level estimator. The digest ends with the twenty levels of the last frame.
+// The level estimator. The digest ends with the twenty levels of the last frame: 0 where all frames are refused.
 fn estimate(frame: &mut [f32], ask: Ask) -> Outcome {
-    let new = Estimator::new(ask.samples);
-    let mut estimator = new.estimator;
+    let mut estimator = Estimator::new(ask.samples).unwrap_or(Estimator::none());
     let mut levels = [LinearS16(0.0); 20];
-    let mut tape = sound::start();
-    let mut refused = false;
-    let frames = ask.frames;
-    let mut k: u32 = 0;
-    while k < frames {
-        let number = k;
-        k += 1;
-        tape = sound::turn(frame, tape, ask.sound, number);
-        let found = estimator.compute_level(frame, ask.channels, ask.samples);
-        let after = found.estimator;
+    let made = over(frame, ask, |frame, _, _| {
+        let found = estimator.compute_level(frame, ask.channels, ask.samples)?;
         let envelope = found.envelope;
-        estimator = after;
+        estimator = found.estimator;
         levels = envelope;
-        refused = refused | (found.reply != DONE);
-    }
-    Outcome {
-        digest: sound::digest_levels(tape.digest, levels),
-        refused,
-    }
+        Ok(())
+    });
+    made.with(&levels.map(|level| level.0))
 }
 
 // The gain applier at a gain that stays.
 fn apply(frame: &mut [f32], ask: Ask, factor: f32) -> Outcome {
-    let new = Applier::new(false, factor);
-    let mut applier = new.applier;
-    let mut tape = sound::start();
-    let mut refused = false;
-    let frames = ask.frames;
-    let mut k: u32 = 0;
-    while k < frames {
-        let number = k;
-        k += 1;
-        tape = sound::turn(frame, tape, ask.sound, number);
-        let next = applier.apply_gain(frame, ask.channels, ask.samples);
-        let after = next.applier;
-        applier = after;
-        refused = refused | (next.reply != DONE);
-    }
-    Outcome {
-        digest: sound::mix(tape.digest, applier.current),
-        refused,
-    }
+    let mut applier = Applier::new(false, factor).unwrap_or(Applier::none());
+    let made = over(frame, ask, |frame, _, _| {
+        applier = applier.apply_gain(frame, ask.channels, ask.samples)?;
+        Ok(())
+    });
+    made.with(&[applier.current])
 }
 
 // The gain applier with another gain for each frame, twice the factor and the factor in turn.
 fn ramp(frame: &mut [f32], ask: Ask, clip: bool, factor: f32) -> Outcome {
-    let new = Applier::new(clip, factor);
-    let mut applier = new.applier;
-    let mut tape = sound::start();
-    let mut refused = false;
-    let frames = ask.frames;
-    let mut k: u32 = 0;
-    while k < frames {
-        let number = k;
-        k += 1;
-        tape = sound::turn(frame, tape, ask.sound, number);
+    let mut applier = Applier::new(clip, factor).unwrap_or(Applier::none());
+    let made = over(frame, ask, |frame, _, number| {
         let aim = floats::pick(number % 2 == 0, factor + factor, factor);
-        let set = applier.set_gain_factor(aim);
-        let aimed = set.applier;
-        let next = aimed.apply_gain(frame, ask.channels, ask.samples);
-        let after = next.applier;
-        applier = after;
-        refused = refused | (set.reply != DONE) | (next.reply != DONE);
-    }
-    Outcome {
-        digest: sound::mix(tape.digest, applier.current),
-        refused,
-    }
+        applier = applier.set_gain_factor(aim)?;
+        applier = applier.apply_gain(frame, ask.channels, ask.samples)?;
+        Ok(())
+    });
+    made.with(&[applier.current])
 }
 
-// A digest with a curve's counts by region.
-fn mix_counts(before: u32, curve: Curve) -> u32 {
-    let a = sound::mix(before, (curve.identity % 65536) as u16 as f32);
-    let b = sound::mix(a, (curve.knee % 65536) as u16 as f32);
-    let c = sound::mix(b, (curve.limiter % 65536) as u16 as f32);
-    sound::mix(c, (curve.saturation % 65536) as u16 as f32)
+// A curve's count of a region, as a float.
+fn count(n: u64) -> f32 {
+    (n % 65536) as u16 as f32
 }
 
 // The curve, one look-up a frame. The digest ends with the sum of the gains and the counts by region.
 fn look_up(frame: &mut [f32], ask: Ask) -> Outcome {
     let mut curve = Curve::new();
     let mut gains = 0.0;
-    let mut tape = sound::start();
-    let mut refused = false;
-    let frames = ask.frames;
-    let mut k: u32 = 0;
-    while k < frames {
-        let number = k;
-        k += 1;
-        tape = sound::turn(frame, tape, ask.sound, number);
-        let next = curve.look_up_gain_to_apply(LinearS16(tape.level));
-        let after = next.curve;
-        curve = after;
-        gains = gains + next.gain;
-        refused = refused | (next.reply != DONE);
-    }
-    Outcome {
-        digest: mix_counts(sound::mix(tape.digest, gains), curve),
-        refused,
-    }
+    let made = over(frame, ask, |_, tape, _| {
+        let looked = curve.look_up_gain_to_apply(LinearS16(tape.level))?;
+        curve = looked.curve;
+        gains += looked.gain;
+        Ok(())
+    });
+    made.with(&[
+        gains,
+        count(curve.identity),
+        count(curve.knee),
+        count(curve.limiter),
+        count(curve.saturation),
+    ])
 }
 
 // The limiter. The digest ends with its level.
 fn limit(frame: &mut [f32], ask: Ask) -> Outcome {
-    let new = Limiter::new(ask.samples);
-    let mut limiter = new.limiter;
-    let mut tape = sound::start();
-    let mut refused = false;
-    let frames = ask.frames;
-    let mut k: u32 = 0;
-    while k < frames {
-        let number = k;
-        k += 1;
-        tape = sound::turn(frame, tape, ask.sound, number);
-        let next = limiter.process(frame, ask.channels, ask.samples);
-        let after = next.limiter;
-        limiter = after;
-        refused = refused | (next.reply != DONE);
-    }
+    let mut limiter = Limiter::new(ask.samples).unwrap_or(Limiter::none());
+    let made = over(frame, ask, |frame, _, _| {
+        limiter = limiter.process(frame, ask.channels, ask.samples)?;
+        Ok(())
+    });
     let heard = limiter.last_audio_level();
-    Outcome {
-        digest: sound::mix(tape.digest, heard.level.0),
-        refused,
-    }
-}
-
-// A new chain for channels of so many samples.
-fn leveller_for(samples: usize) -> Chain {
-    let new = Chain::new(Settings::usual(), THRESHOLD, samples, RING);
-    let chain = new.chain;
-    chain
-}
-
-// A digest with the level and the headroom that a chain publishes.
-fn mix_published(before: u32, leveller: Chain) -> u32 {
-    let heard = leveller.estimator;
-    let safe = leveller.protector;
-    sound::mix(sound::mix(before, heard.level), safe.headroom)
+    made.with(&[heard.map_or(0.0, |level| level.0)])
 }
 
 // The chain. The digest ends with its level and its headroom.
 fn level(frame: &mut [f32], ask: Ask) -> Outcome {
-    let mut leveller = leveller_for(ask.samples);
-    let mut tape = sound::start();
-    let mut refused = false;
-    let frames = ask.frames;
-    let mut k: u32 = 0;
-    while k < frames {
-        let number = k;
-        k += 1;
-        tape = sound::turn(frame, tape, ask.sound, number);
-        let figures = tape.figures;
-        let next = leveller.step(figures, frame, ask.channels, ask.samples);
-        let after = next.chain;
-        leveller = after;
-        refused = refused | (next.reply != DONE);
-    }
-    Outcome {
-        digest: mix_published(tape.digest, leveller),
-        refused,
-    }
+    let new = Chain::new(Settings::usual(), THRESHOLD, ask.samples, RING);
+    let mut leveller = new.unwrap_or(Chain::none());
+    let made = over(frame, ask, |frame, tape, _| {
+        let next = leveller.step(tape.figures, frame, ask.channels, ask.samples)?;
+        leveller = next.chain;
+        Ok(())
+    });
+    made.with(&[leveller.estimator.level, leveller.protector.headroom])
 }
 
 // The part that is asked for, over a frame of its size. Whatever is no part does nothing.
 fn work(frame: &mut [f32], ask: Ask) -> Outcome {
-    let part = ask.part;
-    if part == SPEECH_LEVEL {
-        hear(frame, ask)
-    } else if part == HEADROOM {
-        protect(frame, ask)
-    } else if part == CONTROLLER {
-        control(frame, ask)
-    } else if part == ENVELOPE {
-        estimate(frame, ask)
-    } else if part == CURVE {
-        look_up(frame, ask)
-    } else if part == LIMITER {
-        limit(frame, ask)
-    } else if part == CHAIN {
-        level(frame, ask)
-    } else if (part == APPLIER_ONE) | (part == APPLIER_EQUAL) {
-        apply(frame, ask, floats::pick(part == APPLIER_ONE, 1.0, 0.75))
-    } else if (part == APPLIER_RAMP) | (part == APPLIER_CLIP) {
-        ramp(
-            frame,
-            ask,
-            part == APPLIER_CLIP,
-            floats::pick(part == APPLIER_CLIP, 1.5, 0.5),
-        )
-    } else {
-        nothing(frame, ask)
+    match ask.part {
+        SPEECH_LEVEL => hear(frame, ask),
+        HEADROOM => protect(frame, ask),
+        CONTROLLER => control(frame, ask),
+        ENVELOPE => estimate(frame, ask),
+        APPLIER_ONE => apply(frame, ask, 1.0),
+        APPLIER_EQUAL => apply(frame, ask, 0.75),
+        APPLIER_RAMP => ramp(frame, ask, false, 0.5),
+        APPLIER_CLIP => ramp(frame, ask, true, 1.5),
+        CURVE => look_up(frame, ask),
+        LIMITER => limit(frame, ask),
+        CHAIN => level(frame, ask),
+        _ => nothing(frame, ask),
     }
 }
 
 // What the part that is asked for makes, the last frame included.
 pub(crate) fn run(frame: &mut [f32], ask: Ask) -> Outcome {
     let made = work(frame, ask);
-    Outcome {
-        digest: sound::digest(made.digest, frame),
-        refused: made.refused,
-    }
+    made.with(frame)
 }

@@ -1,9 +1,8 @@
 // The sound and the figures that the parts are given, and the digest of what they make of it.
 // oracle/speed has the same, so that both sides do the same work on the same numbers.
 
-use std::num::wrapping_add_u32;
 use units::figures::Figures;
-use units::kinds::{Dbfs, LinearS16};
+use units::kinds::Dbfs;
 
 // How loud each frame of a syllable is: 160 ms, with peaks 6 dB over full scale.
 const SYLLABLE: [f32; 16] = [
@@ -62,18 +61,21 @@ fn sample(seed: u64, at: usize) -> f32 {
 // Fills a frame, so loud, and answers the noise's number to go on from.
 fn fill(frame: &mut [f32], seed: u64, loud: f32) -> u64 {
     let mut s = seed;
-    let mut i = 0;
-    while i < frame.len() {
+    for (i, x) in frame.iter_mut().enumerate() {
         s = next(s);
-        frame[i] = sample(s, i) * loud;
-        i += 1;
+        *x = sample(s, i) * loud;
     }
     s
 }
 
 // A digest with one more float: its bits are added after a turn by one place.
 pub(crate) fn mix(before: u32, x: f32) -> u32 {
-    wrapping_add_u32(before / 2 + before % 2 * 2147483648, bits::bits_of(x))
+    before.rotate_right(1).wrapping_add(bits::bits_of(x))
+}
+
+// A digest with all floats of a list.
+pub(crate) fn digest(before: u32, list: &[f32]) -> u32 {
+    list.iter().fold(before, |d, x| mix(d, *x))
 }
 
 // How far a run has come: the noise's number to go on from, the digest, the figures of the frame, and a level for
@@ -88,22 +90,14 @@ pub struct Tape {
 
 // A digest with the five figures of a frame.
 fn mix_figures(before: u32, figures: Figures) -> u32 {
-    let a = mix(before, figures.probability);
-    let b = mix(a, figures.rms.0);
-    let c = mix(b, figures.peak.0);
-    let d = mix(c, figures.noise.0);
-    mix(d, figures.envelope.0)
-}
-
-// A digest with all floats of a list.
-pub(crate) fn digest(before: u32, list: &[f32]) -> u32 {
-    let mut d = before;
-    let mut i = 0;
-    while i < list.len() {
-        d = mix(d, list[i]);
-        i += 1;
-    }
-    d
+    let list = [
+        figures.probability,
+        figures.rms.0,
+        figures.peak.0,
+        figures.noise.0,
+        figures.envelope.0,
+    ];
+    digest(before, &list)
 }
 
 // A run at its start.
@@ -140,16 +134,4 @@ pub(crate) fn turn(frame: &mut [f32], tape: Tape, sound: u32, number: u32) -> Ta
     } else {
         renew(frame, tape, sound, number)
     }
-}
-
-// A digest with the twenty levels of a frame.
-pub(crate) fn digest_levels(before: u32, levels: [LinearS16; 20]) -> u32 {
-    let mut d = before;
-    let mut i = 0;
-    while i < 20 {
-        let level = levels[i];
-        d = mix(d, level.0);
-        i += 1;
-    }
-    d
 }
