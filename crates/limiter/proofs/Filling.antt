@@ -1,5 +1,5 @@
 -- The factors of a channel, filled one sub-frame after the other: the invariant, and that it begins, goes on and ends. Assumes nothing.
-use mathlib.Core.Path.{◌≡◌, sym, ap, ◌∙◌}
+use mathlib.Core.Path.{◌≡◌, sym, ap, ◌∙◌, subst}
 use mathlib.Core.List.{List, ◌++◌, append_assoc, append-nil}
 use Prim.Native.Nat.{ℕ, suc, ◌+◌, ◌-◌, ◌*◌, ◌≤◌, ◌<◌, min}
 use native.Mathlib.Nat.{mul-le-mul_right}
@@ -38,6 +38,10 @@ module _ (p : ℕ) (carried : Float) (gains : List Float) (twenty : length gains
     where
       sums : (a b n p : ℕ) → a ≡ p → b ≡ n - p → n ≡ 20 * p → a + b ≡ 20 * p
       sums a b n p i j k = omega arith
+
+  -- the place where the next one begins
+  pub filling_at : {by : List Float} {from k : ℕ} → Filling p carried gains by from k → Filling p carried gains by (k * p) k
+  filling_at {by} {from} {k} f = subst (λ (z : ℕ). Filling p carried gains by z k) f.at f
 
   -- each later one has room, and is filled from the gain before to its own
   pub filling_room : {by : List Float} {from k : ℕ} → Filling p carried gains by from k → k < 20 → from + p ≤ length by

@@ -10,7 +10,7 @@ ghost use Rattle.lists.specs.Each.{Each};
 ghost use Rattle.interpolated_gain_curve.specs.Curve as Curves;
 ghost use Rattle.fixed_digital_level_estimator.specs.Envelope.{plain};
 ghost use Rattle.fixed_digital_level_estimator.specs.Range.{Level};
-ghost use Rattle.limiter.specs.Scale.{FullScale, Finite};
+ghost use Rattle.limiter.specs.Scale.{FullScale};
 ghost use Rattle.limiter.specs.Limiter.{gains_of, curve_after, passes, none, made, processed, changed, cleared, heard};
 ghost use Rattle.limiter.specs.Factors.{whole, line, straight, eighth, curved, first_part, later_parts, factors, limited};
 
@@ -23,9 +23,6 @@ use units::refusals::{Refusal, check};
 const LOWEST: f32 = -32768.0;
 
 const HIGHEST: f32 = 32767.0;
-
-// So many samples are done in one go, without a branch between them: a millisecond at 48 kHz.
-const BLOCK: usize = 48;
 
 // The level estimator, the gain curve with its counts, and the factor that the last frame ended with.
 #[derive(Clone, Copy)]
@@ -49,10 +46,8 @@ fn fill_line(part: &mut [f32], start: f32, step: f32)
     requires { length part.old ≤ 480 }
     ensures { part.new ≡ line start step 0 (length part.old) }
 {
-    let mut j = 0;
-    while j < part.len() {
-        part[j] = start + step * (j as u16 as f32);
-        j += 1;
+    for (j, factor) in part.iter_mut().enumerate() {
+        *factor = start + step * (j as u16 as f32);
     }
 }
 
@@ -77,55 +72,28 @@ fn fill_curved(part: &mut [f32], start: f32, end: f32)
 {
     let n = part.len() as u16 as f32;
     let difference = start - end;
-    let mut j = 0;
-    while j < part.len() {
+    for (j, factor) in part.iter_mut().enumerate() {
         let t = (j as u16 as f32) / n;
-        part[j] = eighth_power(1.0 - t) * difference + end;
-        j += 1;
+        *factor = eighth_power(1.0 - t) * difference + end;
     }
 }
 
-// Multiplies each sample of a part by its factor, and brings it between the ends of 16 bits. The
-// product of two numbers is no NaN, so each end may come first, which is one instruction for four
-// samples; `floats::clamp`, which keeps a NaN, takes two.
-fn limit_some(part: &mut [f32], by: &[f32])
-    requires { (length part.old ≤ length by.now) × Each Finite by.now × Each Finite part.old }
-    ensures { part.new ≡ limited by.now part.old }
-{
-    let mut i = 0;
-    while i < part.len() {
-        part[i] = floats::smaller(HIGHEST, floats::larger(LOWEST, part[i] * by[i]));
-        i += 1;
-    }
-}
-
-// The same block after block, and then what is left.
+// Multiplies each sample of a part by its factor, and brings it between the ends of 16 bits.
 fn limit(part: &mut [f32], by: &[f32])
-    requires { (length part.old ≤ length by.now) × Each Finite by.now × Each Finite part.old }
+    requires { length part.old ≤ length by.now }
     ensures { part.new ≡ limited by.now part.old }
 {
-    let mut at = 0;
-    while BLOCK <= part.len() - at {
-        let to = at + BLOCK;
-        limit_some(&mut part[at..to], &by[at..to]);
-        at = to;
+    for (i, x) in part.iter_mut().enumerate() {
+        *x = floats::clamp(*x * by[i], LOWEST, HIGHEST);
     }
-    limit_some(&mut part[at..], &by[at..]);
 }
 
 // Lends each channel's part to `limit`.
 fn limit_channels(frame: &mut [f32], channels: usize, samples: usize, by: &[f32])
-    requires { (length frame.old ≡ channels * samples) × (samples ≤ length by.now) × Each Finite by.now × Each Finite frame.old }
+    requires { (length frame.old ≡ channels * samples) × (samples ≤ length by.now) }
     ensures { frame.new ≡ each_part (limited by.now) channels samples frame.old }
 {
-    let mut start = 0;
-    let mut left = channels;
-    while 0 < left {
-        let end = start + samples;
-        limit(&mut frame[start..end], by);
-        start = end;
-        left -= 1;
-    }
+    frames::each_channel(frame, channels, samples, |part| limit(part, by));
 }
 
 // Fills the first sub-frame: by the eighth power where the factor falls, and otherwise on a line.
@@ -172,13 +140,9 @@ fn fill_factors(by: &mut [f32], part: usize, carried: f32, gains: [f32; 20])
     ensures { by.new ≡ factors part carried gains }
 {
     fill_first(&mut by[..part], carried, gains[0]);
-    let mut from = part;
-    let mut k = 1;
-    while k < 20 {
-        let to = from + part;
-        fill_straight(&mut by[from..to], gains[k - 1], gains[k]);
-        from = to;
-        k += 1;
+    for k in 1..20 {
+        let from = k * part;
+        fill_straight(&mut by[from..from + part], gains[k - 1], gains[k]);
     }
 }
 

@@ -1,11 +1,7 @@
 -- `limiter::fill_factors` meets its contract, by the laws of `Filling`. Assumes nothing.
-use Prim.Native.Nat.{◌-◌}
-use Rattle.limiter.proofs.Filling.{Filling}
+use Prim.Native.Nat.{◌*◌}
 use Rattle.limiter.proofs.Filling.{Filling}
 use Rattle.limiter.proofs.fill_factors.Given as goal
 
 abbrev pub invariant-loop-k : goal.invariant-loop-k
-invariant-loop-k l = Filling l.part l.carried l.gains l.by l.from l.k
-
-abbrev pub decreases-loop-k : goal.decreases-loop-k
-decreases-loop-k l = 20 - l.k
+invariant-loop-k l = Filling l.part l.carried l.gains l.by (l.k * l.part) l.k

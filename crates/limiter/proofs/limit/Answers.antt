@@ -1,55 +1,25 @@
--- `limiter::limit` meets its contract, by the laws of what is done in blocks. The invariant adds that what is left are numbers. Assumes nothing.
-use Prim.Native.Nat.{◌+◌, ◌-◌}
-use lib.ListN.{length, length-drop}
-use Rattle.frames.specs.Walk.{block_cut, block_last}
-use Rattle.frames.specs.Blocks.{blocks_begin, blocks_go_on, blocks_end}
-use Rattle.lists.specs.Each.{each_take, each_drop}
-use Rattle.limiter.specs.Scale.{Finite}
-use Rattle.limiter.specs.Laws.Blocks.{limited_split}
-use borrow.Author.Rules.{rules}
-use native.Mathlib.Omega.{arith}
+-- `limiter::limit` meets its contract. The invariant: what is done, then the definition on what is left, by the factors that are left. Assumes nothing.
+use Rattle.std.proofs.Common.{◌<◌, ◌+◌, length, drop, sym, refl, ◌∙◌, arith}
+use lib.Ieee.{nan}
+use Rattle.lists.specs.Loops.{in_place, in_place_done}
+use Rattle.lists.specs.Stores.{next}
+use Rattle.limiter.specs.Factors.{limited}
 use Rattle.limiter.proofs.limit.Goals as goal
 
-pub loop-part-init : goal.loop-part-init
-loop-part-init c = (blocks_begin, c.requires.2)
+pub loop-i-init : goal.loop-i-init
+loop-i-init c = refl
 
-pub slice_bounds-limit_some-end-in-loop-part : goal.slice_bounds-limit_some-end-in-loop-part
-slice_bounds-limit_some-end-in-loop-part c = omega arith
-
-pub limit_some-requires : goal.limit_some-requires
-limit_some-requires c =
-    let loop = c.loop-part in
-    let start = c in
-    let size = loop.at + 48 - loop.at in
-    (search rules, each_take Finite size _ (each_drop Finite loop.at _ start.requires.1), each_take Finite size _ loop.invariant.1)
-
-pub loop-part-preserved : goal.loop-part-preserved
-loop-part-preserved c =
-    let loop = c.loop-part in
-    let made = c.limit_some in (
-      blocks_go_on limited_split loop.invariant.0 48 (omega arith) made.ensures made.auto.part,
-      rw (block_cut loop.part made.new.part loop.at 48 (omega arith) made.auto.part).1 (each_drop Finite 48 _ loop.invariant.1),
-    )
-
-pub loop-part-smaller : goal.loop-part-smaller
-loop-part-smaller c = omega (arith, (loop-part-preserved c).0.same)
-
-pub limit_some-requires-2 : goal.limit_some-requires-2
-limit_some-requires-2 c =
-    let loop = c.loop-part in
-    let start = c in
-    let by = start.args.by.now in (
-      rw (block_last loop.part loop.at, block_last by loop.at, length-drop, length-drop) (omega arith),
-      each_take Finite (length by - loop.at) _ (each_drop Finite loop.at by start.requires.1),
-      each_take Finite (length loop.part - loop.at) _ loop.invariant.1,
-    )
-
-pub shape_of-part : goal.shape_of-part
-shape_of-part c =
-    let made = c.limit_some-2 in
-    (blocks_end limited_split c.loop-part.invariant.0 made.ensures made.auto.part).0
+pub loop-i-preserved : goal.loop-i-preserved
+unfolding limited
+loop-i-preserved c =
+    let loop = c.loop-i in
+    let by = c.args.by.now in
+    let inside : loop.i < length by = omega arith in
+    in_place (limited (drop loop.i by)) (limited (drop (loop.i + 1) by)) loop.part loop.i nan _ (omega arith) (rw (c.clamp.ensures, next by loop.i nan inside)) ∙ loop.invariant
 
 pub returns : goal.returns
+unfolding limited
 returns c =
-    let made = c.limit_some-2 in
-    (blocks_end limited_split c.loop-part.invariant.0 made.ensures made.auto.part).1
+    let loop = c.loop-i in
+    let by = c.args.by.now in
+    sym (in_place_done (limited (drop loop.i by)) loop.part loop.i (omega arith) refl) ∙ loop.invariant

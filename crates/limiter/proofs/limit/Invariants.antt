@@ -1,14 +1,7 @@
--- `limiter::limit` meets its contract, by the laws of what is done in blocks. The invariant adds that what is left are numbers. Assumes nothing.
-use Prim.Native.Nat.{◌-◌}
-use lib.ListN.{length, drop}
-use Rattle.frames.specs.Blocks.{Blocks}
-use Rattle.lists.specs.Each.{Each}
+-- `limiter::limit` meets its contract. The invariant: what is done, then the definition on what is left, by the factors that are left. Assumes nothing.
+use Rattle.std.proofs.Common.{◌≡◌, ◌++◌, take, drop}
 use Rattle.limiter.specs.Factors.{limited}
-use Rattle.limiter.specs.Scale.{Finite}
 use Rattle.limiter.proofs.limit.Given as goal
 
-abbrev pub invariant-loop-part : goal.invariant-loop-part
-invariant-loop-part l = Blocks limited l.by l.initial.part l.part l.at × Each Finite (drop l.at l.part)
-
-abbrev pub decreases-loop-part : goal.decreases-loop-part
-decreases-loop-part l = length l.part - l.at
+abbrev pub invariant-loop-i : goal.invariant-loop-i
+invariant-loop-i l = take l.i l.part ++ limited (drop l.i l.by) (drop l.i l.part) ≡ limited l.by l.initial.part

@@ -27,11 +27,10 @@ use Rattle.fixed_digital_level_estimator.specs.Laws.Kinds.{plain_linear}
 use Rattle.fixed_digital_level_estimator.specs.Laws.Accepted.{refused_early}
 use Rattle.limiter.specs.declared.Limiter.{Limiter}
 use Rattle.limiter.specs.Limiter.{passes, processed, levels_of, after}
-use Rattle.lists.specs.Each.{Each}
-use Rattle.limiter.specs.Scale.{FullScale, Finite, Ready}
+use Rattle.limiter.specs.Scale.{FullScale, Ready}
 use Rattle.limiter.specs.Laws.States.{processed_full_scale}
-use Rattle.limiter.specs.Laws.Taken.{levels, factors_finite, samples_finite}
-use Rattle.limiter.specs.Laws.Taking.{parts_pass, fine, factors_are, joined}
+use Rattle.limiter.specs.Laws.Taken.{levels}
+use Rattle.limiter.specs.Laws.Taking.{parts_pass, fine, joined}
 use Rattle.limiter.proofs.Limiter.process.Goals as goal
 
 -- what is refused is not done
@@ -158,17 +157,8 @@ pub limit_channels-requires : goal.limit_channels-requires
 limit_channels-requires c =
     let a = c.args in
     let p = tests a.self a.frame.now a.channels a.samples (rw (c.is_shape.ensures, c.passes.ensures) at c.in_ok-check.ensures) in
-    let q = took a.self a.frame.now a.channels a.samples _ p c.in_ok-heard.ensures in
-    let f = fine a.self a.frame.now a.channels a.samples q in
-    let ready : Ready a.self = record { level = search rules; carried = search rules; state = p } in
-    let held = c.slice_known-1.given in
-    let is = found_is a.self a.frame.now a.channels a.samples _ p c.in_ok-heard.ensures in
-    let by = factors_are a.self a.frame.now a.channels a.samples _ _ _ is c.look_up-looked.ensures.0 c.channel_factors-by.ensures in (
-      f.long,
-      le_of_eq (sym (start-long f.most c.channel_factors-by.result (search rules))),
-      subst (Each Finite) (sym by) (factors_finite a.self a.frame.now a.channels a.samples ready held q),
-      samples_finite a.self a.frame.now a.channels a.samples ready held q,
-    )
+    let f = fine a.self a.frame.now a.channels a.samples (took a.self a.frame.now a.channels a.samples _ p c.in_ok-heard.ensures) in
+    (f.long, le_of_eq (sym (start-long f.most c.channel_factors-by.result (search rules))))
 
 pub returns : goal.returns
 unfolding processed
