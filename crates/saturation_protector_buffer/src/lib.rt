@@ -51,6 +51,7 @@ pub fn is_capacity(n: u32) -> bool
     (1 <= n) & (n <= LARGEST)
 }
 
+#[tactic(auto, using(units::specs::Laws::Handed::refused_by, crate::specs::Laws::Passing::within), unfolding(units::specs::Handed::handed, units::specs::Replies::refusal, crate::specs::Rings::start, crate::specs::Ring::empty, crate::specs::Ring::fits, crate::specs::Ring::passes, crate::specs::Ring::push, crate::specs::Ring::reset, crate::specs::Calls::made, crate::specs::Calls::pushed, crate::specs::Calls::told, crate::specs::Calls::fronted, crate::specs::Calls::sized, crate::specs::Calls::held, crate::specs::Calls::forgotten, crate::specs::Calls::compared))]
 impl Ring {
     // An empty ring that can hold so many peaks. A capacity that is not from 1 to 16 is refused with 4.
     pub fn new(capacity: u32) -> Result<Ring, Refusal>
@@ -68,7 +69,6 @@ impl Ring {
     }
 
     // Without peaks, of a capacity, and all slots 0.
-    #[tactic(auto, unfolding(crate::specs::Ring::empty))]
     fn empty(capacity: u32) -> Ring
         ensures { result ≡ empty capacity }
     {
@@ -82,7 +82,6 @@ impl Ring {
 
     // Whether a ring's numbers fit each other: a capacity from 1 to 16, a place below it and a size up to it. What is
     // stored is not looked at.
-    #[tactic(auto, unfolding(crate::specs::Ring::fits))]
     pub fn fits(self) -> bool
         ensures { result ≡ fits self }
     {
@@ -122,6 +121,8 @@ impl Ring {
         Ok(self.store(v))
     }
 
+    // The private steps ask for a ring that is `Within`. No type holds that fact: the fields of a ring are the C interface's, and
+    // whoever has one may write them.
     // The Rust's push_back: the peak stored at the place, the place after it round the ring, and one
     // peak more, up to the ring's capacity.
     fn store(self, v: f32) -> Ring
@@ -164,7 +165,6 @@ impl Ring {
 
     // Where the oldest peak is stored: at the place of the next one where the ring is full, and
     // otherwise at 0.
-    #[tactic(auto, unfolding(crate::specs::Rings::start))]
     fn front_index(self) -> usize
         ensures { result ≡ start self.capacity self.place self.size }
     {
