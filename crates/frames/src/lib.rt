@@ -1,12 +1,11 @@
 // A frame of sound: one lent f32 buffer, channel after channel. Its shape and its samples are
-// tested here, and each channel's part is lent on to what changes it.
+// tested here; each part that changes samples lends a channel's part on by itself.
 
 #![tactic(auto)]
 
-ghost use Rattle.std.specs.Prelude.{◌≡◌, ◌*◌, Bool, T, List, length, Float};
+ghost use Rattle.std.specs.Prelude.{◌≡◌, Bool, T, length, Float};
 ghost use Rattle.std.specs.Float.{binary32};
 ghost use Rattle.std.specs.Float.Ieee.{fits};
-ghost use Rattle.frames.specs.Parts.{each_part};
 ghost use Rattle.frames.specs.Shape.{is_samples, is_shape};
 ghost use Rattle.frames.specs.Samples.{within, all_within};
 ghost use Rattle.frames.specs.Refusal.{frame_refusal};
@@ -86,20 +85,4 @@ pub fn check(
 {
     let shape = is_shape(channels, samples, frame.len()) & set;
     units::refusals::check(shape, setting, figure, are_within(bound, frame))
-}
-
-// Lends each channel's part of a frame to a call, one after another. Whatever the call makes of a part of so many samples
-// is made of each.
-pub fn each_channel<F: Fn(&mut [f32])>(frame: &mut [f32], channels: usize, samples: usize, f: F)
-    requires callable { (part : _) → length part.now ≡ samples → F.pre f part }
-    requires shape { length frame.old ≡ channels * samples }
-    ensures { (made : List Float → List Float) → ((part after : _) → length part.now ≡ samples → F.post f part tt after → after.now ≡ made part.now)
-        → frame.new ≡ each_part made channels samples frame.old }
-{
-    let mut start = 0;
-    for _ in 0..channels {
-        let end = start + samples;
-        f(&mut frame[start..end]);
-        start = end;
-    }
 }

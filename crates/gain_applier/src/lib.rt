@@ -3,7 +3,7 @@
 
 #![tactic(auto)]
 
-ghost use Rattle.std.specs.Prelude.{◌≡◌, ◌*◌, ◌≤◌, length};
+ghost use Rattle.std.specs.Prelude.{◌≡◌, ◌*◌, ◌≤◌, List, length, Float};
 ghost use Rattle.std.specs.List.{AllZip};
 ghost use Rattle.frames.specs.Parts.{each_part};
 ghost use Rattle.gain_applier.specs.Sound.{close_to_one, scaled, ramped, clipped, finished, gained};
@@ -145,6 +145,22 @@ fn finish(frame: &mut [f32], clip: bool)
     }
 }
 
+// Lends each channel's part of a frame to a call, one after another. Whatever the call makes of a part of so many samples
+// is made of each. It asks something of its caller, as no public function does, so it is no function of `frames`.
+fn each_channel<F: Fn(&mut [f32])>(frame: &mut [f32], channels: usize, samples: usize, f: F)
+    requires callable { (part : _) → length part.now ≡ samples → F.pre f part }
+    requires shape { length frame.old ≡ channels * samples }
+    ensures { (made : List Float → List Float) → ((part after : _) → length part.now ≡ samples → F.post f part tt after → after.now ≡ made part.now)
+        → frame.new ≡ each_part made channels samples frame.old }
+{
+    let mut start = 0;
+    for _ in 0..channels {
+        let end = start + samples;
+        f(&mut frame[start..end]);
+        start = end;
+    }
+}
+
 // Ramps each channel's part. The gains are the same for each, so they are worked out once.
 fn ramp(frame: &mut [f32], channels: usize, samples: usize, from: f32, step: f32)
     requires { (length frame.old ≡ channels * samples) × (samples ≤ 480) }
@@ -153,7 +169,7 @@ fn ramp(frame: &mut [f32], channels: usize, samples: usize, from: f32, step: f32
     let mut room = [0.0; 480];
     let gains = &mut room[..samples];
     fill_gains(gains, from, step);
-    frames::each_channel(frame, channels, samples, |part| multiply(part, gains));
+    each_channel(frame, channels, samples, |part| multiply(part, gains));
 }
 
 // Puts the gain on a frame: nothing where it stays and is close to 1, the same factor everywhere where
@@ -173,7 +189,7 @@ fn put_gain(
         if is_close_to_one(current) {
             return;
         }
-        frames::each_channel(frame, channels, samples, |part| scale(part, current));
+        each_channel(frame, channels, samples, |part| scale(part, current));
     } else {
         ramp(frame, channels, samples, last, (current - last) * inverse);
     }

@@ -1,9 +1,9 @@
--- `frames::each_channel` meets its contract, by the laws of the walk over what is done to a part. Assumes nothing.
+-- `gain_applier::each_channel` meets its contract, by the laws of the walk over what is done to a part. Assumes nothing.
 use Rattle.std.proofs.Common.{drop, ◌≡◌, ◌*◌, List, length, Float, ℕ, zero, suc, ◌+◌, ◌-◌, ◌<◌, ◌≤◌, sym, ◌∙◌, arith, length-drop}
 use Rattle.std.proofs.Math.Nat.{suc-mul}
 use Rattle.std.proofs.Math.Seq.{length-take-le}
 use Rattle.frames.specs.Walk.{lent, walk_begins, walk_goes_on, walk_ends, block_length}
-use Rattle.frames.proofs.each_channel.Goals as goal
+use Rattle.gain_applier.proofs.each_channel.Goals as goal
 
 -- while a part is left, there is room for it
 room : (start left samples n : ℕ) → start + left * samples ≡ n → 0 < left → start + samples ≤ n

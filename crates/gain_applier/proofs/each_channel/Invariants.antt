@@ -1,7 +1,7 @@
--- `frames::each_channel` meets its contract, by the laws of the walk over what is done to a part. Assumes nothing.
+-- `gain_applier::each_channel` meets its contract, by the laws of the walk over what is done to a part. Assumes nothing.
 use Rattle.std.proofs.Common.{◌≡◌, ◌*◌, List, length, Float, ◌+◌, ◌-◌, MutBor}
 use Rattle.frames.specs.Walk.{Walking}
-use Rattle.frames.proofs.each_channel.Given as goal
+use Rattle.gain_applier.proofs.each_channel.Given as goal
 
 abbrev pub invariant-loop : goal.invariant-loop
 invariant-loop g l =
