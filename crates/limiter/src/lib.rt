@@ -93,7 +93,12 @@ fn limit_channels(frame: &mut [f32], channels: usize, samples: usize, by: &[f32]
     requires { (length frame.old ≡ channels * samples) × (samples ≤ length by.now) }
     ensures { frame.new ≡ each_part (limited by.now) channels samples frame.old }
 {
-    frames::each_channel(frame, channels, samples, |part| limit(part, by));
+    let mut start = 0;
+    for _ in 0..channels {
+        let end = start + samples;
+        limit(&mut frame[start..end], by);
+        start = end;
+    }
 }
 
 // Fills the first sub-frame: by the eighth power where the factor falls, and otherwise on a line.
