@@ -1,2 +1,3 @@
 -- Lemmas that several proofs share.
+pub mod Flags
 pub mod Told

@@ -10,7 +10,7 @@ ghost use Rattle.chain.specs.Calls.{nothing_published};
 ghost use Rattle.kept.specs.States.{none_limiter, none_chain};
 ghost use Rattle.kept.specs.Calls.{limiter_made, limiter_stepped, limiter_read, chain_made, kept_answer, chain_stepped, chain_gapped, kept_published, chain_read, told_limiter, told_level, told_chain, told_step, told_published};
 
-use crate::states::{KeptChain, KeptLimiter, number_of};
+use crate::states::{KeptChain, KeptLimiter};
 use chain::{Answer, Chain};
 use limiter::Limiter;
 use units::figures::Figures;
@@ -52,7 +52,7 @@ pub fn make_limiter(samples: usize) -> Result<KeptLimiter, Refusal>
     ensures { told_limiter none_limiter result ≡ limiter_made samples }
 {
     let limiter = Limiter::new(samples)?;
-    Ok(KeptLimiter::of(limiter))
+    Ok(KeptLimiter::from(limiter))
 }
 
 // The refusal of a frame whose state is none: 1 where its shape is none or its samples are not those that were set,
@@ -82,7 +82,7 @@ pub fn limit_frame(
     if kept.is_sound() {
         let limiter = kept.limiter();
         let after = limiter.process(frame, channels, samples)?;
-        Ok(KeptLimiter::of(after))
+        Ok(KeptLimiter::from(after))
     } else {
         let set = kept.estimator.samples as usize;
         Err(refuse_state(channels, samples, frame.len(), set))
@@ -109,7 +109,7 @@ pub fn make_chain(
     ensures { told_chain none_chain result ≡ chain_made settings threshold samples capacity }
 {
     let chain = Chain::new(settings, threshold, samples, capacity)?;
-    Ok(KeptChain::of(chain))
+    Ok(KeptChain::from(chain))
 }
 
 impl KeptAnswer {
@@ -127,23 +127,26 @@ impl KeptAnswer {
 }
 
 // An answer as numbers.
-fn answer_as_numbers(answer: Answer) -> KeptAnswer
-    ensures { result ≡ kept_answer (said answer) }
-{
-    match answer {
-        Answer::NonSpeech => KeptAnswer::none(),
-        Answer::Waiting(missing) => KeptAnswer {
-            kind: 1,
-            missing,
-            level: Dbfs(0.0),
-            headroom: Db(0.0),
-        },
-        Answer::Publishing(level, headroom) => KeptAnswer {
-            kind: 2,
-            missing: 0,
-            level,
-            headroom,
-        },
+impl From<Answer> for KeptAnswer {
+    ghost from_gives = { λ answer k. k ≡ kept_answer (said answer) };
+
+    #[tactic(auto, unfolding(crate::specs::Calls::kept_answer, chain::specs::Answer::said))]
+    fn from(answer: Answer) -> KeptAnswer {
+        match answer {
+            Answer::NonSpeech => KeptAnswer::none(),
+            Answer::Waiting(missing) => KeptAnswer {
+                kind: 1,
+                missing,
+                level: Dbfs(0.0),
+                headroom: Db(0.0),
+            },
+            Answer::Publishing(level, headroom) => KeptAnswer {
+                kind: 2,
+                missing: 0,
+                level,
+                headroom,
+            },
+        }
     }
 }
 
@@ -162,9 +165,11 @@ pub fn take_frame(
     if kept.is_sound() {
         let chain = kept.chain();
         let next = chain.step(figures, frame, channels, samples)?;
+        let answer = KeptAnswer::from(next.answer);
+        let after = KeptChain::from(next.chain);
         Ok(Stepped {
-            answer: answer_as_numbers(next.answer),
-            chain: KeptChain::of(next.chain),
+            answer,
+            chain: after,
         })
     } else {
         let set = kept.limiter.estimator.samples as usize;
@@ -180,7 +185,7 @@ pub fn mark_gap(kept: KeptChain) -> Result<KeptChain, Refusal>
     let sound = kept.sound()?;
     let chain = sound.chain();
     let after = chain.gap()?;
-    Ok(KeptChain::of(after))
+    Ok(KeptChain::from(after))
 }
 
 impl Published {
@@ -198,17 +203,20 @@ impl Published {
 }
 
 // What a chain publishes, with a number for the flag.
-fn published_as_numbers(published: chain::Published) -> Published
-    ensures { result ≡ kept_published published }
-{
-    let level = published.level;
-    let headroom = published.headroom;
-    let gain = published.gain;
-    Published {
-        level,
-        headroom,
-        gain,
-        confident: number_of(published.confident),
+impl From<chain::Published> for Published {
+    ghost from_gives = { λ published k. k ≡ kept_published published };
+
+    #[tactic(auto, using(crate::proofs::Flags::flag_number), unfolding(crate::specs::Calls::kept_published))]
+    fn from(published: chain::Published) -> Published {
+        let level = published.level;
+        let headroom = published.headroom;
+        let gain = published.gain;
+        Published {
+            level,
+            headroom,
+            gain,
+            confident: u32::from(published.confident),
+        }
     }
 }
 
@@ -219,5 +227,5 @@ pub fn read_chain(kept: KeptChain) -> Result<Published, Refusal>
     let sound = kept.sound()?;
     let chain = sound.chain();
     let published = chain.published()?;
-    Ok(published_as_numbers(published))
+    Ok(Published::from(published))
 }

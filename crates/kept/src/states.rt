@@ -6,7 +6,7 @@
 ghost use Rattle.std.specs.Prelude.{◌≡◌, true};
 ghost use Rattle.units.specs.Handed.{handed};
 ghost use Rattle.units.specs.Replies.{refusal};
-ghost use Rattle.kept.specs.States.{is_flag, flag_of, number_of, narrow, envelope_of, kept_envelope, sound_limiter, limiter_of, kept_limiter, none_limiter, sound_chain, chain_of, kept_chain, none_chain};
+ghost use Rattle.kept.specs.States.{is_flag, flag_of, narrow, envelope_of, kept_envelope, sound_limiter, limiter_of, kept_limiter, none_limiter, sound_chain, chain_of, kept_chain, none_chain};
 
 use adaptive_digital_gain_controller::Controller;
 use chain::Chain;
@@ -110,13 +110,6 @@ fn flag_of(n: u32) -> bool
     n == 1
 }
 
-// The number of a flag.
-pub(crate) fn number_of(flag: bool) -> u32
-    ensures { result ≡ number_of flag }
-{
-    if flag { 1 } else { 0 }
-}
-
 // The last 32 bits of a number: the number itself where it has no more.
 fn narrow(n: usize) -> u32
     ensures { result ≡ narrow n }
@@ -135,11 +128,14 @@ impl KeptEnvelope {
             part: self.part as usize,
         }
     }
+}
 
-    // What is kept of one.
-    fn of(estimator: fixed_digital_level_estimator::Estimator) -> KeptEnvelope
-        ensures { result ≡ kept_envelope estimator }
-    {
+// What is kept of an envelope's estimator.
+impl From<fixed_digital_level_estimator::Estimator> for KeptEnvelope {
+    ghost from_gives = { λ whole k. k ≡ kept_envelope whole };
+
+    #[tactic(auto, unfolding(crate::specs::States::kept_envelope))]
+    fn from(estimator: fixed_digital_level_estimator::Estimator) -> KeptEnvelope {
         KeptEnvelope {
             level: estimator.level,
             samples: narrow(estimator.samples),
@@ -148,13 +144,15 @@ impl KeptEnvelope {
     }
 }
 
+// No TryFrom gives a limiter or a chain back: a step reads the samples of a state whose flags are no flags too, since 1 comes
+// before 4, so the test and what is kept stand apart.
 impl KeptLimiter {
     // All 0: what stands where there is no limiter. Every call refuses it.
     pub fn none() -> KeptLimiter
         ensures { result ≡ none_limiter }
     {
         let limiter = Limiter::none();
-        KeptLimiter::of(limiter)
+        KeptLimiter::from(limiter)
     }
 
     // Whether each number that stands for a flag is one.
@@ -196,15 +194,17 @@ impl KeptLimiter {
             carried: self.carried,
         }
     }
+}
 
-    // What is kept of a limiter.
-    pub(crate) fn of(limiter: Limiter) -> KeptLimiter
-        ensures { result ≡ kept_limiter limiter }
-    {
+// What is kept of a limiter.
+impl From<Limiter> for KeptLimiter {
+    ghost from_gives = { λ whole k. k ≡ kept_limiter whole };
+
+    fn from(limiter: Limiter) -> KeptLimiter {
         let whole = limiter.estimator;
-        let estimator = KeptEnvelope::of(whole);
+        let estimator = KeptEnvelope::from(whole);
         let curve = limiter.curve;
-        let available = number_of(curve.available);
+        let available = u32::from(curve.available);
         KeptLimiter {
             estimator,
             carried: limiter.carried,
@@ -227,7 +227,7 @@ impl KeptChain {
         ensures { result ≡ none_chain }
     {
         let chain = Chain::none();
-        KeptChain::of(chain)
+        KeptChain::from(chain)
     }
 
     // Whether each number that stands for a flag is one.
@@ -295,23 +295,25 @@ impl KeptChain {
             limiter,
         }
     }
+}
 
-    // What is kept of a chain.
-    pub(crate) fn of(chain: Chain) -> KeptChain
-        ensures { result ≡ kept_chain chain }
-    {
+// What is kept of a chain.
+impl From<Chain> for KeptChain {
+    ghost from_gives = { λ whole k. k ≡ kept_chain whole };
+
+    fn from(chain: Chain) -> KeptChain {
         let level = chain.estimator;
         let settings = level.settings;
         let preliminary = level.preliminary;
         let reliable = level.reliable;
-        let confident = number_of(level.confident);
+        let confident = u32::from(level.confident);
         let protector = chain.protector;
         let gain = chain.controller;
         let set = gain.settings;
         let applier = gain.applier;
-        let clip = number_of(applier.clip);
+        let clip = u32::from(applier.clip);
         let whole = chain.limiter;
-        let limiter = KeptLimiter::of(whole);
+        let limiter = KeptLimiter::from(whole);
         KeptChain {
             estimator: KeptLevel {
                 settings,

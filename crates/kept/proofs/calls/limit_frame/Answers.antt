@@ -21,7 +21,7 @@ returns-in_ok-after c =
     let a = c.args in
     let gone = c.in_ok-after.ensures in
     let both = handed_ok _ _ _ (sym gone.value) in
-    let j = limiter_joined a.kept a.frame.now a.channels a.samples (sym c.is_sound.ensures ∙ c.if-is_sound.true) c.limiter-limiter.ensures refl gone.frame_after both.0 (rw both.1 c.of.ensures) in
+    let j = limiter_joined a.kept a.frame.now a.channels a.samples (sym c.is_sound.ensures ∙ c.if-is_sound.true) c.limiter-limiter.ensures refl gone.frame_after both.0 (rw both.1 c.from.ensures) in
     record { value = j.0; frame_after = j.1; scale = gone.scale }
 
 pub returns-else-is_sound : goal.returns-else-is_sound

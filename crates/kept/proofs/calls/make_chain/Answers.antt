@@ -16,4 +16,4 @@ pub returns : goal.returns
 unfolding told_chain
 returns c =
     let a = c.args in
-    rw c.of.ensures (chain_is_made a.settings a.threshold a.samples a.capacity _ c.in_ok-chain.ensures)
+    rw c.from.ensures (chain_is_made a.settings a.threshold a.samples a.capacity _ c.in_ok-chain.ensures)

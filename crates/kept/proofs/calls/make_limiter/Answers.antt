@@ -13,4 +13,4 @@ returns-in_err-limiter c =
 
 pub returns : goal.returns
 unfolding told_limiter
-returns c = rw c.of.ensures (limiter_is_made c.args.samples _ c.in_ok-limiter.ensures)
+returns c = rw c.from.ensures (limiter_is_made c.args.samples _ c.in_ok-limiter.ensures)

@@ -17,4 +17,4 @@ returns-in_err-after c =
 
 pub returns : goal.returns
 unfolding told_chain
-returns c = rw c.of.ensures (gap_taken c.args.kept c.in_ok-sound.sound c.in_ok-after.after c.in_ok-sound.ensures (rw c.chain-chain.ensures at c.in_ok-after.ensures))
+returns c = rw c.from.ensures (gap_taken c.args.kept c.in_ok-sound.sound c.in_ok-after.after c.in_ok-sound.ensures (rw c.chain-chain.ensures at c.in_ok-after.ensures))

@@ -18,5 +18,5 @@ returns-in_err-published c =
 pub returns : goal.returns
 unfolding told_published
 returns c =
-    rw c.published_as_numbers.ensures
+    rw c.from.ensures
     (read_told c.args.kept c.in_ok-sound.sound c.in_ok-published.published c.in_ok-sound.ensures (rw c.chain-chain.ensures at c.in_ok-published.ensures))

@@ -20,7 +20,7 @@ unfolding told_step
 returns-in_ok-next c =
     let a = c.args in
     let gone = c.in_ok-next.ensures in
-    let j = chain_joined a.kept a.figures a.frame.now a.channels a.samples c.in_ok-next.next (sym c.is_sound.ensures ∙ c.if-is_sound.true) c.chain-chain.ensures gone.result_value gone.frame_after c.answer_as_numbers.ensures c.of.ensures in
+    let j = chain_joined a.kept a.figures a.frame.now a.channels a.samples c.in_ok-next.next (sym c.is_sound.ensures ∙ c.if-is_sound.true) c.chain-chain.ensures gone.result_value gone.frame_after c.from-answer.ensures c.from-after.ensures in
     record { value = j.0; frame_after = j.1; scale = gone.scale }
 
 pub returns-else-is_sound : goal.returns-else-is_sound

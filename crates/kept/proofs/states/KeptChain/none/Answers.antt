@@ -4,4 +4,4 @@ use Rattle.kept.proofs.states.KeptChain.none.Goals as goal
 
 pub returns : goal.returns
 unfolding none_chain
-returns c = rw (c.of.ensures, c.none-chain.ensures)
+returns c = rw (c.from.ensures, c.none-chain.ensures)

@@ -4,4 +4,4 @@ use Rattle.kept.proofs.states.KeptLimiter.none.Goals as goal
 
 pub returns : goal.returns
 unfolding none_limiter
-returns c = rw (c.of.ensures, c.none-limiter.ensures)
+returns c = rw (c.from.ensures, c.none-limiter.ensures)
