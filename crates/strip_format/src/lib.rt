@@ -77,7 +77,7 @@ pub enum Entry {
 
 impl Version {
     // The number that says it.
-    pub fn number(self) -> u8
+    fn number(self) -> u8
         ensures { result ≡ number_of self }
     {
         self as u8
