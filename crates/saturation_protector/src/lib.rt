@@ -185,6 +185,8 @@ impl Peaks {
     }
 }
 
+// The private steps ask for a state that passes, in a clause. No type holds that fact: the fields of a state are the C interface's,
+// and whoever has one may write them.
 impl Protector {
     // A new protector that starts at a headroom, and whose rings hold so many peaks. A threshold that is not from 1
     // to the largest and a capacity that is not from 1 to 16 are refused with 4, and then a headroom that is not
@@ -233,6 +235,7 @@ impl Protector {
 
     // Whether a handed-in state passes: both headrooms and the threshold in their ranges, a run no longer
     // than the threshold, and two states that pass, with rings of one capacity.
+    #[tactic(auto, unfolding(crate::specs::Protector::passes))]
     pub fn passes(self) -> bool
         ensures { result ≡ passes_protector self }
     {
