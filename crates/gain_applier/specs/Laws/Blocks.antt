@@ -5,7 +5,7 @@ use Rattle.std.specs.List.{AllZip}
 use Rattle.std.specs.Float.{binary32}
 use Rattle.std.specs.Float.Ieee.{mul}
 use Rattle.floats.specs.Choice.{clamp}
-use Rattle.frames.specs.Blocks.{Splits, beside_splits}
+use Rattle.frames.specs.Blocks.{Splits, beside_splits, alone, each_splits}
 use Rattle.gain_applier.specs.Sound.{scaled, clipped}
 use Rattle.gain_applier.specs.Gains.{multiplied}
 
@@ -26,7 +26,16 @@ clipped_each R is [] (y ∷ ys) h = absurd h
 clipped_each R is (x ∷ xs) [] h = absurd h
 clipped_each R is (x ∷ xs) (y ∷ ys) h = ap₂ ◌∷◌ (is x y h.0) (clipped_each R is xs ys h.1)
 
--- Samples multiplied by as many gains: done to some, and then to the rest, it is done to all.
+-- What is done to each sample by itself, or by the gain beside it: done to some, and then to the rest, it is done to all.
+pub scaled_split : (gain : Float) → Splits (alone (scaled gain))
+unfolding scaled
+scaled_split gain = each_splits (scaled gain) (λ (x : Float). mul binary32 x gain) refl (λ (x : Float) (xs : List Float). refl)
+
+pub clipped_split : Splits (alone clipped)
+unfolding clipped
+clipped_split =
+    each_splits clipped (λ (x : Float). clamp x (from_bits binary32 0xc700_0000) (from_bits binary32 0x46ff_fe00)) refl (λ (x : Float) (xs : List Float). refl)
+
 pub multiplied_split : Splits multiplied
 unfolding multiplied
 multiplied_split = beside_splits multiplied (λ (gain x : Float). mul binary32 x gain) none bare (λ (gain : Float) (gains : List Float) (x : Float) (xs : List Float). refl)
