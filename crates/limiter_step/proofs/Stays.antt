@@ -3,7 +3,7 @@ use Rattle.std.proofs.Common.{sym}
 use borrow.Author.Tests.{ne_eqb}
 use Rattle.units.specs.Replies.{done}
 use Rattle.units.specs.Handed.{handed}
-use Rattle.units.specs.Laws.Handed.{handed_done, handed_ok}
+use Rattle.units.specs.Laws.Handed.{refused_not_done, handed_ok}
 use Rattle.units.specs.declared.refusals.Refusal.{Refusal}
 use Rattle.limiter.specs.declared.Limiter.{Limiter}
 use Rattle.limiter.specs.Limiter.{processed}
@@ -15,8 +15,7 @@ pub stays : (limiter : Limiter) (frame : List Float) (channels samples : ℕ) (e
 unfolding processed
 stays limiter frame channels samples e h =
     let made = (processed limiter frame channels samples).next in
-    let n : made.reply ≡ done → ⊥ = λ (d : made.reply ≡ done). cc (handed_done made.reply made.limiter d, h) in
-    let t = ne_eqb made.reply done n in
+    let t = ne_eqb made.reply done (refused_not_done made.reply made.limiter e h) in
     rw t
 
 -- a step that is done hands out the next one

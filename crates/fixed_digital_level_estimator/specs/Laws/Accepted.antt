@@ -6,7 +6,7 @@ use Rattle.units.specs.Figures.{curve_level}
 use Rattle.units.specs.Replies.{done, refusal}
 use Rattle.units.specs.Laws.Replies.{refused_first}
 use Rattle.units.specs.Handed.{handed}
-use Rattle.units.specs.Laws.Handed.{handed_done}
+use Rattle.units.specs.Laws.Handed.{refused_not_done}
 use Rattle.units.specs.declared.refusals.Refusal.{Refusal}
 use Rattle.frames.specs.Shape.{is_samples}
 use Rattle.frames.specs.Samples.{largest_level, all_within}
@@ -58,6 +58,4 @@ accepted e frame channels samples h =
 pub refused_early : {B : Type 0} (shape setting sample : Bool) (e : Refusal) (made : B) → ◌≡◌ {A = Result (Unit {0}) Refusal} (Err e) (handed (refusal shape setting true true) tt)
     → handed (refusal shape setting true true) made ≡ handed (refusal shape setting true sample) made
 refused_early shape setting sample e made h =
-    let first = refusal shape setting true true in
-    let not_done : first ≡ done → ⊥ = λ (d : first ≡ done). cc (handed_done {A = Unit {0}} first tt d, h) in
-    ap (λ (n : ℕ). handed n made) (sym (refused_first shape setting true sample not_done))
+    ap (λ (n : ℕ). handed n made) (sym (refused_first shape setting true sample (refused_not_done (refusal shape setting true true) (tt {0}) e h)))

@@ -10,11 +10,11 @@ use borrow.Author.Tests.{ne_eqb}
 use lib.Dec.{eqb}
 use lib.ListN.{length, take, length-take}
 use lib.Ieee.{Float}
-use Rattle.std.specs.Prelude.{Result, Ok, Err}
+use Rattle.std.specs.Prelude.{Result, Ok}
 use Rattle.units.specs.Replies.{done, refusal}
 use Rattle.units.specs.Laws.Replies.{none_refused}
 use Rattle.units.specs.Handed.{handed}
-use Rattle.units.specs.Laws.Handed.{refused_by, passed_done, handed_done, handed_ok}
+use Rattle.units.specs.Laws.Handed.{refused_by, refused_not_done, passed_done, handed_ok}
 use Rattle.units.specs.declared.refusals.Refusal.{Refusal}
 use Rattle.frames.specs.Shape.{is_shape}
 use Rattle.frames.specs.Samples.{largest_level, all_within}
@@ -32,10 +32,6 @@ use Rattle.limiter.specs.Laws.States.{processed_full_scale}
 use Rattle.limiter.specs.Laws.Taken.{levels}
 use Rattle.limiter.specs.Laws.Taking.{parts_pass, fine, joined}
 use Rattle.limiter.proofs.Limiter.process.Goals as goal
-
--- what is refused is not done
-not_done : {A : Type 0} (reply : ℕ) (made : A) (e : Refusal) → Err e ≡ handed reply made → reply ≡ done → ⊥
-not_done reply made e h d = cc (handed_done reply made d, h)
 
 module _ (l : Limiter) (frame : List Float) (channels samples : ℕ) where
   abbrev shape : Bool
@@ -106,7 +102,7 @@ returns-in_err-check-clause-frame_after c =
     let a = c.args in
     let h = rw (c.is_shape.ensures, c.passes.ensures) at c.in_err-check.ensures in
     let e = refused_early (shape a.self a.frame.now a.channels a.samples) (passes a.self) (all_within largest_level a.frame.now) _ (tt {0}) h in
-    stays a.self a.frame.now a.channels a.samples (not_done _ (tt {0}) _ (h ∙ e ∙ ap (λ (n : ℕ). handed n (tt {0})) (reply_of a.self a.frame.now a.channels a.samples)))
+    stays a.self a.frame.now a.channels a.samples (refused_not_done _ (tt {0}) _ (h ∙ e ∙ ap (λ (n : ℕ). handed n (tt {0})) (reply_of a.self a.frame.now a.channels a.samples)))
 
 pub returns-in_err-heard-clause-value : goal.returns-in_err-heard-clause-value
 returns-in_err-heard-clause-value c =
@@ -121,7 +117,7 @@ returns-in_err-heard-clause-frame_after c =
     let a = c.args in
     let p = tests a.self a.frame.now a.channels a.samples (rw (c.is_shape.ensures, c.passes.ensures) at c.in_ok-check.ensures) in
     let same = same_reply a.self a.frame.now a.channels a.samples p in
-    stays a.self a.frame.now a.channels a.samples (λ (d : (processed a.self a.frame.now a.channels a.samples).next.reply ≡ done). not_done _ _ _ c.in_err-heard.ensures (same ∙ d))
+    stays a.self a.frame.now a.channels a.samples (λ (d : (processed a.self a.frame.now a.channels a.samples).next.reply ≡ done). refused_not_done _ _ _ c.in_err-heard.ensures (same ∙ d))
 
 pub look_up-looked-requires : goal.look_up-looked-requires
 look_up-looked-requires c =
