@@ -9,12 +9,12 @@
 
 #![tactic(auto)]
 
+ghost use Rattle.std.specs.Prelude.{◌≡◌, ◌≤◌, length, IfSome};
 ghost use Rattle.io.specs.Counts.{IsPrefixLen};
 
-use ring_word::{Asked, ring_asked};
+use ring_word::{Wish, ring_asked};
 use std::io::Read;
-use strip_run::{Run, Verdict, verdict_of};
-use units::replies::DONE;
+use strip_run::{Run, verdict_of};
 
 // So many bytes are read at a time: the lines of as many records have room in 65,536 bytes.
 const BLOCK: usize = 512;
@@ -22,98 +22,56 @@ const BLOCK: usize = 512;
 // The descriptor that the reply's number is written to.
 const REPLY_FILENO: i32 = 3;
 
-// How many bytes of a block were read, none at the input's end, and whether the read went well.
-#[derive(Clone, Copy)]
-struct Filled {
-    n: usize,
-    well: bool,
-}
+// What a message calls standard output.
+const OUTPUT: &str = "strip: standard output";
 
-// Reads a block. A read that fails is told.
-fn read_block(rt: &HostRuntime, block: &mut [u8]) -> Filled
-    ensures { IsPrefixLen result.n block.new }
+// Reads a block, and answers how many bytes came, none at the input's end. A read that fails is told.
+fn read_block(rt: &HostRuntime, block: &mut [u8]) -> Option<usize>
+    ensures { IfSome result (λ n. IsPrefixLen n block.new) }
 {
-    match rt.stdin().read(block) {
-        Ok(n) => Filled { n, well: true },
-        Err(e) => {
-            outside::fail(rt, "strip: standard input", e);
-            Filled { n: 0, well: false }
+    outside::or_tell(rt, "strip: standard input", rt.stdin().read(block))
+}
+
+// Takes a block, writes its lines, and answers the run after it, and whether they were written. Where not, it is told.
+fn take_block(rt: &HostRuntime, run: Run, block: &[u8], out: &mut [u8]) -> (Run, bool) {
+    match run.take(block, out) {
+        Ok(taken) => {
+            let written = outside::write_output(rt, OUTPUT, &out[..taken.length]);
+            (taken.run, written)
+        }
+        Err(_) => {
+            outside::tell(rt, "strip: the lines do not fit\n");
+            (run, false)
         }
     }
 }
 
-// Writes the lines of a block, and answers whether that went well. Where not, it is told.
-fn write(rt: &HostRuntime, lines: &[u8], reply: u32) -> bool {
-    if reply != DONE {
-        outside::tell(rt, "strip: the lines do not fit\n");
-        return false;
-    }
-    match rt.write_all(lines) {
-        Ok(()) => true,
-        Err(e) => {
-            outside::fail(rt, "strip: standard output", e);
-            false
-        }
-    }
-}
-
-// Settles standard output where all went well so far, and answers whether that does too. Where not, it is told as a write that
-// fails is.
-fn settle_output(rt: &HostRuntime, well: bool) -> bool {
-    if well {
-        match outside::settle_output(rt) {
-            Ok(()) => true,
-            Err(e) => {
-                outside::fail(rt, "strip: standard output", e);
-                false
-            }
-        }
-    } else {
-        false
-    }
-}
-
-// Writes the reply's number, where there is one to tell.
-fn tell(verdict: Verdict) {
-    match verdict {
-        Verdict::Nothing => {}
-        Verdict::Reply(reply) => {
-            io::print_decimal(REPLY_FILENO, reply as u64);
-        }
-    }
-}
-
-// Runs the strip with rings of this capacity: takes the blocks one after the other. A proved loop has to end, so it counts
-// its turns down, from a number that no run uses up.
+// Runs the strip with rings of this capacity: takes the blocks one after the other. A proved loop has to end, so it has a last
+// turn, which no run comes to.
 fn run_strip(rt: &HostRuntime, capacity: u32) {
     let mut block = [0u8; BLOCK];
     let mut out = io::large_buffer();
     let mut run = Run::new(capacity);
     let mut read = true;
     let mut written = true;
-    let mut more = true;
-    let mut turns = u64::MAX;
-    while turns > 0 && more {
-        let filled = read_block(rt, &mut block);
-        let n = filled.n;
-        read = filled.well;
-        if read {
-            let taken = run.take(&block[..n], &mut out);
-            let length = taken.length;
-            written = write(rt, &out[..length], taken.reply);
-            run = taken.run;
-            more = written & run.desk.more;
-        } else {
-            more = false;
+    for _ in 0..u64::MAX {
+        let Some(n) = read_block(rt, &mut block) else {
+            read = false;
+            break;
+        };
+        (run, written) = take_block(rt, run, &block[..n], &mut out);
+        if !(written & run.desk.more) {
+            break;
         }
-        turns -= 1;
     }
-    let settled = settle_output(rt, read & written);
-    tell(verdict_of(run, read, written, settled));
+    let settled = outside::settle_if_well(rt, OUTPUT, read & written);
+    if let Some(reply) = verdict_of(run, read, written, settled) {
+        io::print_decimal(REPLY_FILENO, u64::from(reply));
+    }
 }
 
-// What the words ask for.
-fn asked(rt: &HostRuntime) -> Asked {
+// What the words ask for, where it can be had.
+fn asked(rt: &HostRuntime) -> Option<Wish> {
     let mut first = io::buffer();
     let mut second = io::buffer();
     let n = outside::word(rt, 1, &mut first);
@@ -122,13 +80,11 @@ fn asked(rt: &HostRuntime) -> Asked {
 }
 
 fn main(rt: HostRuntime) {
-    let wish = asked(&rt);
-    if wish.ok & (outside::word_count(&rt) <= wish.from) {
-        run_strip(&rt, wish.capacity);
-    } else {
-        outside::tell(
+    match asked(&rt) {
+        Some(wish) if outside::word_count(&rt) <= wish.from => run_strip(&rt, wish.capacity),
+        _ => outside::tell(
             &rt,
             "strip: it may take the words --ring N, with N from 1 to 16: strip [--ring N] < FILE.strip\n",
-        );
+        ),
     }
 }

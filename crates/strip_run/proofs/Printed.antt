@@ -1,27 +1,35 @@
--- What a line that was put makes of a desk. Assumes nothing.
+-- What a step makes of a desk, by what its calls hand back. Assumes nothing.
 use Rattle.std.proofs.Common.{◌≡◌, ℕ, ◌≤◌, Bool, true, false, eqb, List, ◌++◌, length, drop, sym, refl, ap, ◌∙◌, subst, arith, ne_eqb, eqb-true, le-leb}
+use Rattle.std.specs.Prelude.{Result, Ok, Err, IfOk, IfErr}
+use Rattle.std.specs.Result.{IsErrAnd, result_unwrap_or}
+use Rattle.std.proofs.lemmas.Result.{err_from_is_err_and}
 use borrow.Author.Tests.{eqb-false}
+use Rattle.units.specs.Handed.{number_of, handed}
+use Rattle.units.specs.Laws.Handed.{handed_ok, refused_not_done, check_number, number_not_done}
 use Rattle.units.specs.Replies.{done}
 use Rattle.units.specs.Output.{put}
-use Rattle.units.specs.declared.figures.Figures.{Figures}
+use Rattle.units.specs.Figures as Figures
+use Rattle.units.specs.Settings as Settings
+use Rattle.units.specs.declared.figures.Figures.{Figures as Metered}
+use Rattle.units.specs.declared.refusals.Refusal.{Refusal}
+use Rattle.frames.specs.Shape.{is_samples}
+use Rattle.saturation_protector_buffer.specs.Ring.{is_capacity}
+use Rattle.chain.specs.Answer.{said}
+use Rattle.chain.specs.Chain.{passes}
 use Rattle.chain.specs.Calls as Chaining
-use Rattle.chain.specs.Calls.{Told, made, called, published_told, samples_told}
+use Rattle.chain.specs.Calls.{Told, called, made, told, published_told, samples_told}
 use Rattle.chain.specs.declared.Chain.{Chain}
-use Rattle.chain.specs.declared.Gapped.{Gapped}
-use Rattle.chain.specs.declared.Made.{Made}
+use Rattle.chain.specs.declared.Next.{Next}
 use Rattle.chain.specs.declared.Published.{Published}
-use Rattle.chain.specs.declared.Reading.{Reading}
-use Rattle.chain.specs.declared.SamplesRead.{SamplesRead}
 use Rattle.strip_format.specs.Laws.Refusals.{put_fits}
 use Rattle.strip_format.specs.Laws.Steps.{put_refused, put_done}
 use Rattle.strip_format.specs.declared.Head.{Head}
 use Rattle.strip_lines.specs.Lines.{longest, gap_kind, record_line, refusal_line}
 use Rattle.strip_lines.specs.Calls as Putting
 use Rattle.strip_lines.specs.Laws.Ends.{record_line_fits, refusal_line_fits}
-use Rattle.strip_lines.specs.declared.Line as Put
 use Rattle.strip_reader.specs.Telling.{Shown, unchanged}
 use Rattle.strip_run.specs.Lines.{after, refused_at, begun_with, begun, silence, lined, published_with, published, answered, framed_with, framed, gapped_with, gapped}
-use Rattle.strip_run.specs.Run.{line_of, line_out}
+use Rattle.strip_run.specs.Run.{line_of, line_out, PutOrRefused}
 use Rattle.strip_run.specs.declared.Desk.{Desk}
 use Rattle.strip_run.specs.declared.Line.{Line}
 
@@ -32,133 +40,160 @@ Prints s out line end = (line ≡ line_of s) × (end ≡ line_out s out)
 pub moved : (s t : Shown Desk) (out : List ℕ) (line : Line) (end : List ℕ) → s ≡ t → Prints s out line end → Prints t out line end
 moved s t out line end e p = subst (λ (x : Shown Desk). Prints x out line end) e p
 
+-- what puts or refuses what is shown does so with all that is equal to it
+pub steps_moved : (s t : Shown Desk) (d : Desk) (r : Result Line Refusal) (out end : List ℕ) → s ≡ t → PutOrRefused s d r out end → PutOrRefused t d r out end
+steps_moved s t d r out end e p = subst (λ (x : Shown Desk). PutOrRefused x d r out end) e p
+
+-- a step that ends with a refusal that `?` hands on
+pub stopped_by : (s : Shown Desk) (d : Desk) (r : Result Line Refusal) (e : Refusal) (out end : List ℕ)
+    → IsErrAnd r (λ x. x ≡ e) → refused_at d (number_of e) ≡ s → end ≡ out → PutOrRefused s d r out end
+stopped_by s d r e out end h p q =
+    let is = err_from_is_err_and r h in
+    subst (λ (x : Result Line Refusal). PutOrRefused s d x out end) (sym (is.1 ∙ ap Err is.2)) (p, q)
+
+-- what was refused is told with its line
+pub finally : (s : Shown Desk) (d : Desk) (r : Result Line Refusal) (out mid end : List ℕ) (l : Line) → PutOrRefused s d r out mid
+    → IfOk r (λ x. (l ≡ x) × (end ≡ mid))
+    → IfErr r (λ e. (l ≡ line_of (refused_at d (number_of e))) × (end ≡ line_out (refused_at d (number_of e)) mid))
+    → Prints s out l end
+finally s d (Ok x) out mid end l p q _ = (q.0 ∙ p.0, q.1 ∙ p.1)
+finally s d (Err e) out mid end l p _ q =
+    (q.0 ∙ ap line_of p.0, q.1 ∙ ap (line_out (refused_at d (number_of e))) p.1 ∙ ap (λ (x : Shown Desk). line_out x out) p.0)
+
 -- ---- a line that was put, or was not
-pub line_put : (n : ℕ) (bytes out end : List ℕ) (line : Put.Line) → line ≡ Putting.line_of (put n bytes out) bytes → end ≡ (put n bytes out).out → line.reply ≡ done
-    → (n ≡ done) × (line.length ≡ length bytes) × (end ≡ bytes ++ drop (length bytes) out)
+line_put : (n : ℕ) (bytes out : List ℕ) (k : ℕ) → Ok k ≡ Putting.handed_line (put n bytes out) bytes
+    → (n ≡ done) × (k ≡ length bytes) × ((put n bytes out).out ≡ bytes ++ drop (length bytes) out)
 unfolding Putting.line_of
-line_put n bytes out end line e f h =
-    let reply : (put n bytes out).reply ≡ done = sym (ap (λ (l : Put.Line). l.reply) e) ∙ h in
-    let q = put_done n bytes out reply in
-    (q.0, ap (λ (l : Put.Line). l.length) e ∙ rw reply, f ∙ q.1)
+line_put n bytes out k h =
+    let q = handed_ok _ _ k (sym h) in
+    let p = put_done n bytes out q.0 in
+    (p.0, sym q.1 ∙ rw q.0, p.1)
 
-pub line_left : (n : ℕ) (bytes out end : List ℕ) (line : Put.Line) → length bytes ≤ length out → line ≡ Putting.line_of (put n bytes out) bytes → end ≡ (put n bytes out).out
-    → (line.reply ≡ done → ⊥) → (line.reply ≡ n) × (end ≡ out) × (n ≡ done → ⊥)
+line_left : (n : ℕ) (bytes out : List ℕ) (e : Refusal) → length bytes ≤ length out → Err e ≡ Putting.handed_line (put n bytes out) bytes
+    → (Err e ≡ handed {A = ℕ} n 0) × ((put n bytes out).out ≡ out) × (n ≡ done → ⊥)
 unfolding Putting.line_of
-line_left n bytes out end line l e f h = go (eqb n done) refl
+line_left n bytes out e l h = go (eqb n done) refl
   where
-    reply : line.reply ≡ (put n bytes out).reply
-    reply = ap (λ (x : Put.Line). x.reply) e
-
-    go : (b : Bool) → eqb n done ≡ b → (line.reply ≡ n) × (end ≡ out) × (n ≡ done → ⊥)
+    go : (b : Bool) → eqb n done ≡ b → (Err e ≡ handed {A = ℕ} n 0) × ((put n bytes out).out ≡ out) × (n ≡ done → ⊥)
     go true t =
         let z = eqb-true n done t in
-        absurd (h (reply ∙ rw (z, put_fits bytes out l)))
+        absurd (refused_not_done _ _ e h (rw (z, put_fits bytes out l)))
     go false t =
         let z = eqb-false n done t in
-        (reply ∙ rw (put_refused n bytes out z), f ∙ rw (put_refused n bytes out z), z)
+        (h ∙ rw (put_refused n bytes out z, t), rw (put_refused n bytes out z), z)
 
-pub refuse_is : (d : Desk) (reply : ℕ) (out end : List ℕ) (line : Put.Line) → longest ≤ length out → line ≡ Putting.line_of (Putting.put_refusal_line d.number reply out) (refusal_line d.number reply)
+pub refuse_is : (d : Desk) (reply : ℕ) (out end : List ℕ) (r : Result ℕ Refusal) (n : ℕ) → longest ≤ length out
+    → r ≡ Putting.handed_line (Putting.put_refusal_line d.number reply out) (refusal_line d.number reply) → n ≡ result_unwrap_or r 0
     → end ≡ (Putting.put_refusal_line d.number reply out).out
-    → Prints (refused_at d reply) out (record { desk = record { chain = d.chain; capacity = d.capacity; number = d.number; more = false; reply = reply }; length = line.length }) end
-unfolding refused_at Putting.put_refusal_line Putting.line_of
-refuse_is d reply out end line room e f =
+    → Prints (refused_at d reply) out (record { desk = record { chain = d.chain; capacity = d.capacity; number = d.number; more = false; reply = reply }; length = n }) end
+unfolding refused_at Putting.put_refusal_line Putting.line_of handed
+refuse_is d reply out end r n room e w f =
     let fits = le-leb (length (refusal_line d.number reply)) (length out) (omega (arith, refusal_line_fits d.number reply)) in
-    (rw (e, fits), f ∙ rw fits)
+    (rw (w, e, fits), f ∙ rw fits)
+
+-- ---- the number of a refusal is the reply's
+published_number : (c : Chain) (e : Refusal) → Err e ≡ handed (published_told c).reply (published_told c).published → number_of e ≡ (published_told c).reply
+unfolding published_told
+published_number c e h = check_number true (passes c) true true _ e h
+
+samples_number : (c : Chain) (e : Refusal) → Err e ≡ handed (samples_told c).reply (samples_told c).samples → number_of e ≡ (samples_told c).reply
+unfolding samples_told
+samples_number c e h = check_number true (passes c) true true _ e h
+
+gap_number : (c : Chain) (e : Refusal) → Err e ≡ handed (Chaining.gap c).reply (Chaining.gap c).chain → number_of e ≡ (Chaining.gap c).reply
+unfolding Chaining.gap
+gap_number c e h = check_number true (passes c) true true _ e h
 
 -- ---- a head
-taken_with : (d : Desk) (m : Made) → m.reply ≡ done → unchanged (record { chain = m.chain; capacity = d.capacity; number = after d.number; more = true; reply = d.reply }) ≡ begun_with d m
-unfolding begun_with
-taken_with d m k = sym (rw k refl)
+module _ (d : Desk) (h : Head) where
+  abbrev fresh : Chaining.Made
+  fresh = made h.settings h.threshold h.samples d.capacity
 
-refused_with : (d : Desk) (m : Made) → (m.reply ≡ done → ⊥) → refused_at d m.reply ≡ begun_with d m
-unfolding begun_with
-refused_with d m n = sym (rw (ne_eqb m.reply done n) refl)
+  begun_number : (e : Refusal) → Err e ≡ handed fresh.reply fresh.chain → number_of e ≡ fresh.reply
+  unfolding made
+  begun_number e q = check_number (is_samples h.samples) _ true true _ e q
 
-module _ (d : Desk) (h : Head) (m : Made) (e : m ≡ made h.settings h.threshold h.samples d.capacity) where
-  begun_is : begun_with d m ≡ begun d h
-  unfolding begun
-  begun_is = ap (begun_with d) e
+  pub begun_refused : (e : Refusal) → Err e ≡ handed fresh.reply fresh.chain → refused_at d (number_of e) ≡ begun d h
+  unfolding begun begun_with
+  begun_refused e q = ap (refused_at d) (begun_number e q) ∙ sym (rw (ne_eqb fresh.reply done (refused_not_done _ _ e q)) refl)
 
-  pub begun_done : (n : ℕ) (out : List ℕ) → n ≡ after d.number → m.reply ≡ done
-      → Prints (begun d h) out (record { desk = record { chain = m.chain; capacity = d.capacity; number = n; more = true; reply = d.reply }; length = 0 }) out
-  begun_done n out w k =
-      moved (unchanged (record { chain = m.chain; capacity = d.capacity; number = after d.number; more = true; reply = d.reply })) (begun d h) out _ out (taken_with d m k ∙ begun_is)
-      (ap {B = Line} (λ (i : ℕ). record { desk = record { chain = m.chain; capacity = d.capacity; number = i; more = true; reply = d.reply }; length = 0 }) w, refl)
-
-  pub begun_refused : (m.reply ≡ done → ⊥) → refused_at d m.reply ≡ begun d h
-  begun_refused n = refused_with d m n ∙ begun_is
+  pub begun_done : (c : Chain) (next : Desk) (out : List ℕ) → Ok c ≡ handed fresh.reply fresh.chain
+      → next ≡ record { chain = c; capacity = d.capacity; number = after d.number; more = true; reply = d.reply }
+      → Prints (begun d h) out (record { desk = next; length = 0 }) out
+  unfolding begun begun_with
+  begun_done c next out q w =
+      let p = handed_ok _ _ c (sym q) in
+      rw (p.0, p.1) (rw w (refl, refl))
 
 -- ---- a record
-module _ (d : Desk) (c : Chain) (kind : ℕ) (r : Reading) (e : r ≡ published_told c) where
-  published_is : published_with d c kind r ≡ published d c kind
-  unfolding published
-  published_is = ap (published_with d c kind) e
+module _ (d : Desk) (c : Chain) (kind : ℕ) where
+  pub published_refused : (e : Refusal) → Err e ≡ handed (published_told c).reply (published_told c).published → refused_at d (number_of e) ≡ published d c kind
+  unfolding published published_with
+  published_refused e q = ap (refused_at d) (published_number c e q) ∙ sym (rw (ne_eqb (published_told c).reply done (refused_not_done _ _ e q)) refl)
 
-  pub published_taken : r.reply ≡ done → lined d c kind r.published ≡ published d c kind
-  unfolding published_with
-  published_taken k = sym (rw k refl) ∙ published_is
+  pub published_taken : (p : Published) → Ok p ≡ handed (published_told c).reply (published_told c).published → lined d c kind p ≡ published d c kind
+  unfolding published published_with
+  published_taken p q =
+      let both = handed_ok _ _ p (sym q) in
+      ap (lined d c kind) (sym both.1) ∙ sym (rw both.0 refl)
 
-  pub published_refused : (r.reply ≡ done → ⊥) → refused_at d r.reply ≡ published d c kind
-  unfolding published_with
-  published_refused n = sym (rw (ne_eqb r.reply done n) refl) ∙ published_is
+  module _ (p : Published) where
+    abbrev refused : ℕ
+    refused = Putting.record_refusal p.level.0 p.headroom.0 p.gain.0
 
-module _ (d : Desk) (c : Chain) (kind : ℕ) (p : Published) where
-  abbrev refused : ℕ
-  refused = Putting.record_refusal p.level.0 p.headroom.0 p.gain.0
+    abbrev bytes : List ℕ
+    bytes = record_line d.number kind p.level.0 p.headroom.0 p.gain.0 p.confident
 
-  abbrev bytes : List ℕ
-  bytes = record_line d.number kind p.level.0 p.headroom.0 p.gain.0 p.confident
+    refused_number : (e : Refusal) → Err e ≡ handed {A = ℕ} refused 0 → number_of e ≡ refused
+    unfolding Putting.record_refusal
+    refused_number e q = check_number true true _ true _ e q
 
-  pub lined_done : (n : ℕ) (out end : List ℕ) (line : Put.Line)
-      → line ≡ Putting.line_of (Putting.put_record_line d.number kind p.level.0 p.headroom.0 p.gain.0 p.confident out) (record_line d.number kind p.level.0 p.headroom.0 p.gain.0 p.confident)
-      → end ≡ (Putting.put_record_line d.number kind p.level.0 p.headroom.0 p.gain.0 p.confident out).out → line.reply ≡ done → n ≡ after d.number
-      → Prints (lined d c kind p) out (record { desk = record { chain = c; capacity = d.capacity; number = n; more = true; reply = d.reply }; length = line.length }) end
-  unfolding lined Putting.put_record_line
-  lined_done n out end line e f k w =
-      let q = line_put refused bytes out end line e f k in
-      rw q.0 (rw (w, q.1), q.2)
+    pub lined_done : (k : ℕ) (next : Desk) (out end : List ℕ) → Ok k ≡ Putting.handed_line (Putting.put_record d.number kind p out) (Putting.line_of_record d.number kind p)
+        → end ≡ (Putting.put_record d.number kind p out).out
+        → next ≡ record { chain = c; capacity = d.capacity; number = after d.number; more = true; reply = d.reply }
+        → Prints (lined d c kind p) out (record { desk = next; length = k }) end
+    unfolding lined Putting.put_record_line
+    lined_done k next out end q f w =
+        let l = line_put refused bytes out k q in
+        rw l.0 (rw (w, l.1), f ∙ l.2)
 
-  pub lined_left : (out end : List ℕ) (line : Put.Line) → longest ≤ length out
-      → line ≡ Putting.line_of (Putting.put_record_line d.number kind p.level.0 p.headroom.0 p.gain.0 p.confident out) (record_line d.number kind p.level.0 p.headroom.0 p.gain.0 p.confident)
-      → end ≡ (Putting.put_record_line d.number kind p.level.0 p.headroom.0 p.gain.0 p.confident out).out → (line.reply ≡ done → ⊥)
-      → (end ≡ out) × (refused_at d line.reply ≡ lined d c kind p)
-  unfolding lined Putting.put_record_line
-  lined_left out end line room e f n =
-      let q = line_left refused bytes out end line (omega (arith, record_line_fits d.number kind p.level.0 p.headroom.0 p.gain.0 p.confident)) e f n in
-      (q.1, ap (refused_at d) q.0 ∙ sym (rw (ne_eqb refused done q.2) refl))
+    pub lined_left : (e : Refusal) (out end : List ℕ) → longest ≤ length out
+        → Err e ≡ Putting.handed_line (Putting.put_record d.number kind p out) (Putting.line_of_record d.number kind p)
+        → end ≡ (Putting.put_record d.number kind p out).out
+        → (end ≡ out) × (refused_at d (number_of e) ≡ lined d c kind p)
+    unfolding lined Putting.put_record_line
+    lined_left e out end room q f =
+        let l = line_left refused bytes out e (omega (arith, record_line_fits d.number kind p.level.0 p.headroom.0 p.gain.0 p.confident)) q in
+        (f ∙ l.1, ap (refused_at d) (refused_number e l.0) ∙ sym (rw (ne_eqb refused done l.2) refl))
 
-module _ (d : Desk) (f : Figures) (r : SamplesRead) (e : r ≡ samples_told d.chain) where
-  framed_is : framed_with d f r ≡ framed d f
-  unfolding framed
-  framed_is = ap (framed_with d f) e
+module _ (d : Desk) (f : Metered) where
+  pub framed_unready : (e : Refusal) → Err e ≡ handed (samples_told d.chain).reply (samples_told d.chain).samples → refused_at d (number_of e) ≡ framed d f
+  unfolding framed framed_with
+  framed_unready e q = ap (refused_at d) (samples_number d.chain e q) ∙ sym (rw (ne_eqb (samples_told d.chain).reply done (refused_not_done _ _ e q)) refl)
 
-  pub framed_unready : (r.reply ≡ done → ⊥) → refused_at d r.reply ≡ framed d f
-  unfolding framed_with
-  framed_unready n = sym (rw (ne_eqb r.reply done n) refl) ∙ framed_is
+  module _ (n : ℕ) (q : Ok n ≡ handed (samples_told d.chain).reply (samples_told d.chain).samples) where
+    framed_answered : answered d (called d.chain f (silence n) 1 n).told ≡ framed d f
+    unfolding framed framed_with
+    framed_answered =
+        let both = handed_ok _ _ n (sym q) in
+        ap (λ (m : ℕ). answered d (called d.chain f (silence m) 1 m).told) (sym both.1) ∙ sym (rw both.0 refl)
 
-  module _ (k : r.reply ≡ done) (t : Told) (g : t ≡ (called d.chain f (silence r.samples) 1 r.samples).told) where
-    framed_answered : answered d t ≡ framed d f
-    unfolding framed_with
-    framed_answered = ap (answered d) g ∙ sym (rw k refl) ∙ framed_is
+    pub framed_refused : (e : Refusal) → told d.chain (Err e) ≡ (called d.chain f (silence n) 1 n).told → refused_at d (number_of e) ≡ framed d f
+    unfolding told answered
+    framed_refused e t = sym (rw (ne_eqb (number_of e) done (number_not_done e)) refl) ∙ ap (answered d) t ∙ framed_answered
 
-    pub framed_done : t.reply ≡ done → published d t.chain t.answer.number ≡ framed d f
-    unfolding answered
-    framed_done h = sym (rw h refl) ∙ framed_answered
-
-    pub framed_refused : (t.reply ≡ done → ⊥) → refused_at d t.reply ≡ framed d f
-    unfolding answered
-    framed_refused n = sym (rw (ne_eqb t.reply done n) refl) ∙ framed_answered
+    pub framed_done : (x : Next) → told d.chain (Ok x) ≡ (called d.chain f (silence n) 1 n).told → published d x.chain (said x.answer).number ≡ framed d f
+    unfolding told answered
+    framed_done x t = ap (answered d) t ∙ framed_answered
 
 -- ---- a gap
-module _ (d : Desk) (g : Gapped) (e : g ≡ Chaining.gap d.chain) where
-  gapped_is : gapped_with d g ≡ gapped d
-  unfolding gapped
-  gapped_is = ap (gapped_with d) e
+module _ (d : Desk) where
+  pub gapped_refused : (e : Refusal) → Err e ≡ handed (Chaining.gap d.chain).reply (Chaining.gap d.chain).chain → refused_at d (number_of e) ≡ gapped d
+  unfolding gapped gapped_with
+  gapped_refused e q = ap (refused_at d) (gap_number d.chain e q) ∙ sym (rw (ne_eqb (Chaining.gap d.chain).reply done (refused_not_done _ _ e q)) refl)
 
-  pub gapped_done : g.reply ≡ done → published d g.chain gap_kind ≡ gapped d
-  unfolding gapped_with
-  gapped_done h = sym (rw h refl) ∙ gapped_is
-
-  pub gapped_refused : (g.reply ≡ done → ⊥) → refused_at d g.reply ≡ gapped d
-  unfolding gapped_with
-  gapped_refused n = sym (rw (ne_eqb g.reply done n) refl) ∙ gapped_is
+  pub gapped_done : (c : Chain) → Ok c ≡ handed (Chaining.gap d.chain).reply (Chaining.gap d.chain).chain → published d c gap_kind ≡ gapped d
+  unfolding gapped gapped_with
+  gapped_done c q =
+      let both = handed_ok _ _ c (sym q) in
+      ap (λ (x : Chain). published d x gap_kind) (sym both.1) ∙ sym (rw both.0 refl)

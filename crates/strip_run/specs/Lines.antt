@@ -5,13 +5,9 @@ use Rattle.units.specs.Replies.{done}
 use Rattle.units.specs.Settings.{unset}
 use Rattle.units.specs.declared.figures.Figures.{Figures}
 use Rattle.chain.specs.Calls as Chaining
-use Rattle.chain.specs.Calls.{Told, called, made, published_told, samples_told}
+use Rattle.chain.specs.Calls.{Made, Told, Gapped, Reading, SamplesRead, called, made, published_told, samples_told}
 use Rattle.chain.specs.declared.Chain.{Chain}
-use Rattle.chain.specs.declared.Gapped.{Gapped}
-use Rattle.chain.specs.declared.Made.{Made}
 use Rattle.chain.specs.declared.Published.{Published}
-use Rattle.chain.specs.declared.Reading.{Reading}
-use Rattle.chain.specs.declared.SamplesRead.{SamplesRead}
 use Rattle.strip_format.specs.Format.{version_of, figures, gap}
 use Rattle.strip_format.specs.Whole.{read_strip}
 use Rattle.strip_format.specs.declared.Head.{Head}

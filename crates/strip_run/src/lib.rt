@@ -2,29 +2,29 @@
 
 #![tactic(auto)]
 
-ghost use Rattle.std.specs.Prelude.{◌≡◌, ◌/◌, ◌<◌, ◌≤◌, ◌++◌, length, take, drop};
+ghost use Rattle.std.specs.Prelude.{◌≡◌, ◌/◌, ◌<◌, ◌≤◌, ◌++◌, ℕ, List, true, length, take, drop, IfOk, IfErr};
+ghost use Rattle.units.specs.Handed.{number_of as number};
 ghost use Rattle.chain.specs.Calls.{told, called};
 ghost use Rattle.strip_lines.specs.Lines.{longest, number_of};
 ghost use Rattle.strip_reader.specs.Reader.{handed};
 ghost use Rattle.strip_reader.specs.Telling.{ran, ended};
-ghost use Rattle.strip_run.specs.Lines.{refused_at, begun, silence, published, framed, gapped, shown};
+ghost use Rattle.strip_run.specs.Lines.{after, refused_at, begun, silence, published, framed, gapped, shown};
 ghost use Rattle.strip_run.specs.Lines as Printed;
-ghost use Rattle.strip_run.specs.Run.{new, stopped, run_of, taken_of, out_of, line_of, line_out, verdict_of};
+ghost use Rattle.strip_run.specs.Run.{new, stopped, run_of, taken_of, out_of, taken_told, line_of, line_out, PutOrRefused, verdict_of};
 
 use chain::{Chain, Next};
-use std::num::wrapping_add_u64;
 use strip_format::Head;
 use strip_lines::{Kind, LONGEST, record_line, refusal_line};
 use strip_reader::{Got, Reader};
 use units::figures::Figures;
-use units::replies::{DONE, ROOM};
-use units::settings::Settings;
+use units::refusals::Refusal;
 
 // The largest number of samples that a channel has.
 const SAMPLES: usize = 480;
 
 // The chain, how many peaks its protector remembers, the number of what comes next, 0 for the head, whether the run goes on,
-// and the reply's number: of the refusal that ended the run, and 0 as long as nothing is refused.
+// and the reply's number: of the refusal that ended the run, and 0 as long as nothing is refused. It is a number, and no Refusal:
+// `take` and `verdict_of` take any number here.
 #[derive(Clone, Copy)]
 pub struct Desk {
     pub chain: Chain,
@@ -48,20 +48,25 @@ struct Line {
     length: usize,
 }
 
-// A reply's number, the run that goes on, and how many bytes of lines were put: the run that came in and none, where
-// the buffer is refused.
+// The run that goes on, and how many bytes of lines were put.
 #[derive(Clone, Copy)]
 pub struct Taken {
-    pub reply: u32,
     pub run: Run,
     pub length: usize,
 }
 
-// What whoever started the program is told at its end: nothing, or the reply's number of the run.
-#[derive(Clone, Copy)]
-pub enum Verdict {
-    Nothing,
-    Reply(u32),
+impl Desk {
+    // The desk that goes on with a chain, and takes what comes next.
+    fn after(self, chain: Chain) -> Desk
+        ensures { result ≡ record { chain = chain; capacity = self.capacity; number = after self.number; more = true; reply = self.reply } }
+    {
+        Desk {
+            chain,
+            number: self.number.wrapping_add(1),
+            more: true,
+            ..self
+        }
+    }
 }
 
 // Ends a run with the line of a refusal.
@@ -70,17 +75,26 @@ fn refuse(desk: Desk, reply: u32, out: &mut [u8]) -> Line
     ensures value { result ≡ line_of (refused_at desk reply) }
     ensures out_after { out.new ≡ line_out (refused_at desk reply) out.old }
 {
-    let line = refusal_line(desk.number, reply, out);
-    let chain = desk.chain;
+    let length = refusal_line(desk.number, reply, out).unwrap_or(0);
     Line {
         desk: Desk {
-            chain,
-            capacity: desk.capacity,
-            number: desk.number,
             more: false,
             reply,
+            ..desk
         },
-        length: line.length,
+        length,
+    }
+}
+
+// The same, where the step that came before was refused.
+fn or_refuse(desk: Desk, put: Result<Line, Refusal>, out: &mut [u8]) -> Line
+    requires { longest ≤ length out.old }
+    ensures put { IfOk put (λ line. (result ≡ line) × (out.new ≡ out.old)) }
+    ensures refused { IfErr put (λ e. (result ≡ line_of (refused_at desk (number e))) × (out.new ≡ line_out (refused_at desk (number e)) out.old)) }
+{
+    match put {
+        Ok(line) => line,
+        Err(refusal) => refuse(desk, refusal.number(), out),
     }
 }
 
@@ -101,8 +115,8 @@ fn frame_length(samples: usize) -> usize
 }
 
 // Has the chain take a silent frame of one channel with its figures.
-fn step_silently(chain: Chain, figures: Figures, samples: usize) -> Next
-    ensures { told result ≡ (called chain figures (silence samples) 1 samples).told }
+fn step_silently(chain: Chain, figures: Figures, samples: usize) -> Result<Next, Refusal>
+    ensures { told chain result ≡ (called chain figures (silence samples) 1 samples).told }
 {
     let mut frame = silent();
     let n = frame_length(samples);
@@ -110,103 +124,42 @@ fn step_silently(chain: Chain, figures: Figures, samples: usize) -> Next
 }
 
 // Puts the line of what the chain publishes after an accepted frame or gap.
-fn publish(desk: Desk, chain: Chain, kind: Kind, out: &mut [u8]) -> Line
+fn publish(desk: Desk, chain: Chain, kind: Kind, out: &mut [u8]) -> Result<Line, Refusal>
     requires { longest ≤ length out.old }
-    ensures value { result ≡ line_of (published desk chain (number_of kind)) }
-    ensures out_after { out.new ≡ line_out (published desk chain (number_of kind)) out.old }
+    ensures { PutOrRefused (published desk chain (number_of kind)) desk result out.old out.new }
 {
-    let read = chain.published();
-    if read.reply == DONE {
-        let shown = read.published;
-        let line = record_line(
-            desk.number,
-            kind,
-            shown.level,
-            shown.headroom,
-            shown.gain,
-            shown.confident,
-            out,
-        );
-        if line.reply == DONE {
-            Line {
-                desk: Desk {
-                    chain,
-                    capacity: desk.capacity,
-                    number: wrapping_add_u64(desk.number, 1),
-                    more: true,
-                    reply: desk.reply,
-                },
-                length: line.length,
-            }
-        } else {
-            refuse(desk, line.reply, out)
-        }
-    } else {
-        refuse(desk, read.reply, out)
-    }
+    let shown = chain.published()?;
+    let length = record_line(desk.number, kind, shown, out)?;
+    let desk = desk.after(chain);
+    Ok(Line { desk, length })
 }
 
 // Takes a silent frame with its figures, and puts its line.
-fn take_figures(desk: Desk, figures: Figures, out: &mut [u8]) -> Line
+fn take_figures(desk: Desk, figures: Figures, out: &mut [u8]) -> Result<Line, Refusal>
     requires { longest ≤ length out.old }
-    ensures value { result ≡ line_of (framed desk figures) }
-    ensures out_after { out.new ≡ line_out (framed desk figures) out.old }
+    ensures { PutOrRefused (framed desk figures) desk result out.old out.new }
 {
-    let chain = desk.chain;
-    let read = chain.samples();
-    if read.reply == DONE {
-        let next = step_silently(chain, figures, read.samples);
-        if next.reply == DONE {
-            let after = next.chain;
-            let answer = next.answer;
-            publish(desk, after, Kind::Frame(answer), out)
-        } else {
-            refuse(desk, next.reply, out)
-        }
-    } else {
-        refuse(desk, read.reply, out)
-    }
+    let samples = desk.chain.samples()?;
+    let next = step_silently(desk.chain, figures, samples)?;
+    publish(desk, next.chain, Kind::Frame(next.answer), out)
 }
 
 // Marks a gap, and puts its line.
-fn take_gap(desk: Desk, out: &mut [u8]) -> Line
+fn take_gap(desk: Desk, out: &mut [u8]) -> Result<Line, Refusal>
     requires { longest ≤ length out.old }
-    ensures value { result ≡ line_of (gapped desk) }
-    ensures out_after { out.new ≡ line_out (gapped desk) out.old }
+    ensures { PutOrRefused (gapped desk) desk result out.old out.new }
 {
-    let chain = desk.chain;
-    let next = chain.gap();
-    if next.reply == DONE {
-        let after = next.chain;
-        publish(desk, after, Kind::Gap, out)
-    } else {
-        refuse(desk, next.reply, out)
-    }
+    let after = desk.chain.gap()?;
+    publish(desk, after, Kind::Gap, out)
 }
 
 // Begins with a head: a new chain with its settings and the run's capacity, and no line.
-fn begin(desk: Desk, head: Head, out: &mut [u8]) -> Line
-    requires { longest ≤ length out.old }
-    ensures value { result ≡ line_of (begun desk head) }
-    ensures out_after { out.new ≡ line_out (begun desk head) out.old }
+fn begin(desk: Desk, head: Head) -> Result<Line, Refusal>
+    ensures { (out : List ℕ) → PutOrRefused (begun desk head) desk result out out }
 {
-    let settings = head.settings;
-    let made = Chain::new(settings, head.threshold, head.samples, desk.capacity);
-    if made.reply == DONE {
-        let chain = made.chain;
-        Line {
-            desk: Desk {
-                chain,
-                capacity: desk.capacity,
-                number: wrapping_add_u64(desk.number, 1),
-                more: true,
-                reply: desk.reply,
-            },
-            length: 0,
-        }
-    } else {
-        refuse(desk, made.reply, out)
-    }
+    let chain = Chain::new(head.settings, head.threshold, head.samples, desk.capacity)?;
+    let desk = desk.after(chain);
+    Ok(Line { desk, length: 0 })
 }
 
 // Puts the line of what the strip hands out, where there is one.
@@ -217,21 +170,21 @@ fn show(desk: Desk, got: Got, out: &mut [u8]) -> Line
 {
     match got {
         Got::More => Line { desk, length: 0 },
-        Got::Head(head) => begin(desk, head, out),
-        Got::Record(figures) => take_figures(desk, figures, out),
-        Got::Gap => take_gap(desk, out),
+        Got::Head(head) => or_refuse(desk, begin(desk, head), out),
+        Got::Record(figures) => {
+            let put = take_figures(desk, figures, out);
+            or_refuse(desk, put, out)
+        }
+        Got::Gap => {
+            let put = take_gap(desk, out);
+            or_refuse(desk, put, out)
+        }
         Got::End => {
-            let chain = desk.chain;
-            Line {
-                desk: Desk {
-                    chain,
-                    capacity: desk.capacity,
-                    number: desk.number,
-                    more: false,
-                    reply: desk.reply,
-                },
-                length: 0,
-            }
+            let desk = Desk {
+                more: false,
+                ..desk
+            };
+            Line { desk, length: 0 }
         }
         Got::Refused(reply) => refuse(desk, reply, out),
     }
@@ -253,69 +206,55 @@ fn tell(desk: Desk, got: Got, out: &mut [u8]) -> Line
 // Takes the bytes of a block, one after the other. There is room for a line for each of them.
 fn take_bytes(run: Run, block: &[u8], out: &mut [u8]) -> Taken
     requires { length block.now < length out.old / longest }
-    ensures value { result ≡ record { reply = 0; run = run_of (ran Printed.told run.reader run.desk block.now); length = length (ran Printed.told run.reader run.desk block.now).lines } }
+    ensures run { result.run ≡ run_of (ran Printed.told run.reader run.desk block.now) }
+    ensures length { result.length ≡ length (ran Printed.told run.reader run.desk block.now).lines }
     ensures out_after { out.new ≡ (ran Printed.told run.reader run.desk block.now).lines ++ drop (length (ran Printed.told run.reader run.desk block.now).lines) out.old }
 {
     let mut reader = run.reader;
     let mut desk = run.desk;
     let mut length = 0;
-    let mut i = 0;
-    while i < block.len() {
-        let step = reader.take(block[i]);
+    for byte in block {
+        let step = reader.take(*byte);
         let got = step.got;
         let line = tell(desk, got, &mut out[length..]);
         reader = step.reader;
         desk = line.desk;
         length += line.length;
-        i += 1;
     }
-    Taken {
-        reply: DONE,
-        run: Run { reader, desk },
-        length,
-    }
+    let run = Run { reader, desk };
+    Taken { run, length }
 }
 
 // Ends the run with the strip.
 fn finish(run: Run, out: &mut [u8]) -> Taken
     requires { longest ≤ length out.old }
-    ensures value { result ≡ record { reply = 0; run = stopped (run_of (ended Printed.told run.reader run.desk)); length = length (ended Printed.told run.reader run.desk).lines } }
+    ensures run { result.run ≡ stopped (run_of (ended Printed.told run.reader run.desk)) }
+    ensures length { result.length ≡ length (ended Printed.told run.reader run.desk).lines }
     ensures out_after { out.new ≡ (ended Printed.told run.reader run.desk).lines ++ drop (length (ended Printed.told run.reader run.desk).lines) out.old }
 {
-    let reader = run.reader;
-    let desk = run.desk;
-    let got = reader.finish();
-    let line = tell(desk, got, out);
-    let last = line.desk;
-    let chain = last.chain;
+    let got = run.reader.finish();
+    let line = tell(run.desk, got, out);
+    let last = Desk {
+        more: false,
+        ..line.desk
+    };
     Taken {
-        reply: DONE,
         run: Run {
-            reader,
-            desk: Desk {
-                chain,
-                capacity: last.capacity,
-                number: last.number,
-                more: false,
-                reply: last.reply,
-            },
+            reader: run.reader,
+            desk: last,
         },
         length: line.length,
     }
 }
 
-// What is told at the end, where each read went well, each write did, and the close of the output: the reply of a run that
-// has ended. Where one of them failed, and of a run that goes on, nothing is told.
-pub fn verdict_of(run: Run, read: bool, written: bool, closed: bool) -> Verdict
+// What is told at the end, where each read went well, each write did, and the close of the output: the number of the reply of a
+// run that has ended. Where one of them failed, and of a run that goes on, nothing is told.
+pub fn verdict_of(run: Run, read: bool, written: bool, closed: bool) -> Option<u32>
     ensures { result ≡ verdict_of run read written closed }
 {
     let desk = run.desk;
     let over = read & written & closed & !desk.more;
-    if over {
-        Verdict::Reply(desk.reply)
-    } else {
-        Verdict::Nothing
-    }
+    if over { Some(desk.reply) } else { None }
 }
 
 impl Run {
@@ -324,17 +263,14 @@ impl Run {
     pub fn new(capacity: u32) -> Run
         ensures { result ≡ new capacity }
     {
-        // There is no chain yet: one that is refused is all 0.
-        let made = Chain::new(Settings::unset(), 0, 0, 0);
-        let chain = made.chain;
         Run {
             reader: Reader::new(),
             desk: Desk {
-                chain,
+                chain: Chain::none(),
                 capacity,
                 number: 0,
                 more: true,
-                reply: DONE,
+                reply: 0,
             },
         }
     }
@@ -342,23 +278,17 @@ impl Run {
     // Takes the next block of the strip, of any length, and puts the lines of what is whole with it to the start of a
     // lent buffer; an empty block is the strip's end. Where the buffer cannot hold LONGEST bytes for each byte of the
     // block and once more, it is refused with 8, and nothing changes.
-    pub fn take(self, block: &[u8], out: &mut [u8]) -> Taken
-        ensures value { result ≡ taken_of self block.now (length out.old) }
+    pub fn take(self, block: &[u8], out: &mut [u8]) -> Result<Taken, Refusal>
+        ensures value { taken_told self result ≡ taken_of self block.now (length out.old) }
         ensures out_after { out.new ≡ out_of self block.now out.old }
     {
-        let space = out.len();
-        if block.len() < space / LONGEST {
-            if block.len() == 0 {
-                finish(self, out)
-            } else {
-                take_bytes(self, block, out)
-            }
+        if block.len() >= out.len() / LONGEST {
+            return Err(Refusal::Room);
+        }
+        if block.is_empty() {
+            Ok(finish(self, out))
         } else {
-            Taken {
-                reply: ROOM,
-                run: self,
-                length: 0,
-            }
+            Ok(take_bytes(self, block, out))
         }
     }
 }

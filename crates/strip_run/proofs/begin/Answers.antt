@@ -1,21 +1,13 @@
 -- `strip_run::begin` meets its contract. Assumes nothing.
-use Rattle.strip_run.proofs.Printed.{moved, begun_done, begun_refused}
+use Rattle.std.proofs.Common.{refl}
+use Rattle.strip_run.proofs.Printed.{stopped_by, begun_refused, begun_done}
 use Rattle.strip_run.proofs.begin.Goals as goal
 
-pub refuse-requires : goal.refuse-requires
-refuse-requires c = c.requires
-
-pub returns-then-made-eq-DONE : goal.returns-then-made-eq-DONE
-returns-then-made-eq-DONE c =
-    let made = c.new-made in
+pub returns-in_err-chain : goal.returns-in_err-chain
+returns-in_err-chain c out =
     let a = c.args in
-    let both = begun_done a.desk a.head made.result made.ensures _ a.out.now c.wrapping_add_u64.ensures.value c.if-made-eq-DONE.true in
-    record { value = both.0; out_after = both.1 }
+    stopped_by _ a.desk c.from_residual.result c.in_err-chain.field-0.0 out out c.from_residual.ensures.1
+    (begun_refused a.desk a.head c.in_err-chain.field-0.0 c.in_err-chain.ensures) refl
 
-pub returns-else-made-eq-DONE : goal.returns-else-made-eq-DONE
-returns-else-made-eq-DONE c =
-    let made = c.new-made in
-    let a = c.args in
-    let refused = c.refuse in
-    let both = moved _ _ a.out.now _ _ (begun_refused a.desk a.head made.result made.ensures c.if-made-eq-DONE.false) (refused.ensures.value, refused.ensures.out_after) in
-    record { value = both.0; out_after = both.1 }
+pub returns : goal.returns
+returns c out = begun_done c.args.desk c.args.head c.in_ok-chain.chain c.after-desk.result out c.in_ok-chain.ensures c.after-desk.ensures

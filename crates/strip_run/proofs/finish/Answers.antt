@@ -6,17 +6,17 @@ use Rattle.strip_run.specs.Lines.{told}
 use Rattle.strip_run.specs.Run.{stopped, run_of, line_of, line_out}
 use Rattle.strip_run.specs.declared.Line.{Line}
 use Rattle.strip_run.specs.declared.Run.{Run}
-use Rattle.strip_run.specs.declared.Taken.{Taken}
 use Rattle.strip_run.proofs.finish.Goals as goal
 
-pub tell-line-requires : goal.tell-line-requires
-tell-line-requires c = c.requires
-
-answer-is : (r : Run) (g : Handed) (line : Line) → g ≡ finished r.reader → line ≡ line_of (told r.desk g)
-    → ◌≡◌ {A = Taken} (record { reply = 0; run = record { reader = r.reader; desk = record { chain = line.desk.chain; capacity = line.desk.capacity; number = line.desk.number; more = false; reply = line.desk.reply } }; length = line.length })
-    (record { reply = 0; run = stopped (run_of (ended told r.reader r.desk)); length = length (ended told r.reader r.desk).lines })
+run-is : (r : Run) (g : Handed) (line : Line) → g ≡ finished r.reader → line ≡ line_of (told r.desk g)
+    → record { reader = r.reader; desk = record { chain = line.desk.chain; capacity = line.desk.capacity; number = line.desk.number; more = false; reply = line.desk.reply } }
+    ≡ stopped (run_of (ended told r.reader r.desk))
 unfolding ended
-answer-is r g line e h = rw (h, e)
+run-is r g line e h = rw (h, e)
+
+length-is : (r : Run) (g : Handed) (line : Line) → g ≡ finished r.reader → line ≡ line_of (told r.desk g) → line.length ≡ length (ended told r.reader r.desk).lines
+unfolding ended
+length-is r g line e h = rw (h, e)
 
 out-is : (r : Run) (g : Handed) (out end : List ℕ) → g ≡ finished r.reader → end ≡ line_out (told r.desk g) out
     → end ≡ (ended told r.reader r.desk).lines ++ drop (length (ended told r.reader r.desk).lines) out
@@ -29,6 +29,7 @@ returns c =
     let finish = c.finish-got in
     let a = c.args in
     record {
-      value = answer-is a.run _ tell.result finish.ensures tell.ensures.value;
+      run = run-is a.run _ tell.result finish.ensures tell.ensures.value;
+      length = length-is a.run _ tell.result finish.ensures tell.ensures.value;
       out_after = out-is a.run _ a.out.now _ finish.ensures tell.ensures.out_after;
     }

@@ -5,20 +5,8 @@ use Rattle.strip_reader.specs.declared.Got.{Got}
 use Rattle.strip_run.specs.Lines.{shown}
 use Rattle.strip_run.specs.declared.Desk.{Desk}
 use Rattle.strip_run.specs.declared.Line.{Line}
-use Rattle.strip_run.proofs.Printed.{Prints, moved}
+use Rattle.strip_run.proofs.Printed.{Prints, moved, finally}
 use Rattle.strip_run.proofs.show.Goals as goal
-
-pub begin-requires : goal.begin-requires
-begin-requires c = c.requires
-
-pub take_figures-requires : goal.take_figures-requires
-take_figures-requires c = c.requires
-
-pub take_gap-requires : goal.take_gap-requires
-take_gap-requires c = c.requires
-
-pub refuse-requires : goal.refuse-requires
-refuse-requires c = c.requires
 
 -- what a case prints, what was handed out prints
 of-case : (d : Desk) (g h : Got) (out : List ℕ) (line : Line) (end : List ℕ) → g ≡ h → Prints (shown d (handed h)) out line end → Prints (shown d (handed g)) out line end
@@ -33,19 +21,22 @@ returns-in-More c =
 pub returns-in-Head : goal.returns-in-Head
 unfolding shown handed
 returns-in-Head c =
-    let both = of-case c.args.desk _ _ c.args.out.now _ _ c.in-Head.is (c.begin.ensures.value, c.begin.ensures.out_after) in
+    let put = finally _ c.args.desk _ c.args.out.now _ _ _ (c.begin.ensures c.args.out.now) c.or_refuse.ensures.put c.or_refuse.ensures.refused in
+    let both = of-case c.args.desk _ _ c.args.out.now _ _ c.in-Head.is put in
     record { value = both.0; out_after = both.1 }
 
 pub returns-in-Record : goal.returns-in-Record
 unfolding shown handed
 returns-in-Record c =
-    let both = of-case c.args.desk _ _ c.args.out.now _ _ c.in-Record.is (c.take_figures.ensures.value, c.take_figures.ensures.out_after) in
+    let put = finally _ c.args.desk _ c.args.out.now _ _ _ c.take_figures-put.ensures c.or_refuse-in-Record.ensures.put c.or_refuse-in-Record.ensures.refused in
+    let both = of-case c.args.desk _ _ c.args.out.now _ _ c.in-Record.is put in
     record { value = both.0; out_after = both.1 }
 
 pub returns-in-Gap : goal.returns-in-Gap
 unfolding shown handed
 returns-in-Gap c =
-    let both = of-case c.args.desk _ _ c.args.out.now _ _ c.in-Gap.is (c.take_gap.ensures.value, c.take_gap.ensures.out_after) in
+    let put = finally _ c.args.desk _ c.args.out.now _ _ _ c.take_gap-put.ensures c.or_refuse-in-Gap.ensures.put c.or_refuse-in-Gap.ensures.refused in
+    let both = of-case c.args.desk _ _ c.args.out.now _ _ c.in-Gap.is put in
     record { value = both.0; out_after = both.1 }
 
 pub returns-in-End : goal.returns-in-End

@@ -1,6 +1,6 @@
 -- `strip_run::take_bytes` meets its contract. The invariant: the lines that were put, and those of the bytes from here on, are those of the block.
 -- Assumes nothing.
-use Rattle.std.proofs.Common.{◌≡◌, ℕ, ◌-◌, ◌*◌, ◌≤◌, List, ◌++◌, length, take, drop}
+use Rattle.std.proofs.Common.{◌≡◌, ℕ, ◌*◌, ◌≤◌, List, ◌++◌, length, take, drop}
 use Rattle.strip_lines.specs.Lines.{longest}
 use Rattle.strip_reader.specs.Telling.{Ran, ran}
 use Rattle.strip_run.specs.Lines.{told}
@@ -22,9 +22,6 @@ pub record Going (block out₀ : List ℕ) (r₀ : Run) (out : List ℕ) (r : Ru
   pub most : n ≤ longest * i
   pub within : i ≤ length block
 
-abbrev pub invariant-loop-i : goal.invariant-loop-i
-invariant-loop-i l =
-    Going l.block l.initial.out (record { reader = l.initial.reader; desk = l.initial.desk }) l.out (record { reader = l.reader; desk = l.desk }) l.length l.i
-
-abbrev pub decreases-loop-i : goal.decreases-loop-i
-decreases-loop-i l = length l.block - l.i
+abbrev pub invariant-loop-byte : goal.invariant-loop-byte
+invariant-loop-byte l =
+    Going l.block l.initial.out (record { reader = l.initial.reader; desk = l.initial.desk }) l.out (record { reader = l.reader; desk = l.desk }) l.length l.byte-index

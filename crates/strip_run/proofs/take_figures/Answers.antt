@@ -1,43 +1,24 @@
 -- `strip_run::take_figures` meets its contract. Assumes nothing.
-use Rattle.chain.specs.Calls.{told}
-use Rattle.strip_run.proofs.Printed.{moved, framed_unready, framed_done, framed_refused}
+use Rattle.std.proofs.Common.{refl}
+use Rattle.strip_run.proofs.Printed.{stopped_by, steps_moved, framed_unready, framed_refused, framed_done}
 use Rattle.strip_run.proofs.take_figures.Goals as goal
 
-pub publish-requires : goal.publish-requires
-publish-requires c = c.requires
-
-pub refuse-requires : goal.refuse-requires
-refuse-requires c = c.requires
-
-pub refuse-requires-else-read-eq-DONE : goal.refuse-requires-else-read-eq-DONE
-refuse-requires-else-read-eq-DONE c = c.requires
-
-pub returns-then-next-eq-DONE : goal.returns-then-next-eq-DONE
-unfolding told
-returns-then-next-eq-DONE c =
-    let step = c.step_silently-next in
-    let read = c.samples-read in
+pub returns-in_err-samples : goal.returns-in_err-samples
+returns-in_err-samples c =
     let a = c.args in
-    let put = c.publish in
-    let both = moved _ _ a.out.now _ _ (framed_done a.desk a.figures read.result read.ensures c.if-read-eq-DONE.true (told step.result) step.ensures c.if-next-eq-DONE.true)
-    (put.ensures.value, put.ensures.out_after) in
-    record { value = both.0; out_after = both.1 }
+    let e = c.in_err-samples.field-0.0 in
+    stopped_by _ a.desk c.from_residual.result e a.out.now a.out.now c.from_residual.ensures.1
+    (framed_unready a.desk a.figures e c.in_err-samples.ensures) refl
 
-pub returns-else-next-eq-DONE : goal.returns-else-next-eq-DONE
-unfolding told
-returns-else-next-eq-DONE c =
-    let step = c.step_silently-next in
-    let read = c.samples-read in
+pub returns-in_err-next : goal.returns-in_err-next
+returns-in_err-next c =
     let a = c.args in
-    let put = c.refuse in
-    let both = moved _ _ a.out.now _ _ (framed_refused a.desk a.figures read.result read.ensures c.if-read-eq-DONE.true (told step.result) step.ensures c.if-next-eq-DONE.false)
-    (put.ensures.value, put.ensures.out_after) in
-    record { value = both.0; out_after = both.1 }
+    let e = c.in_err-next.field-0.0 in
+    stopped_by _ a.desk c.from_residual-in_err-next.result e a.out.now a.out.now c.from_residual-in_err-next.ensures.1
+    (framed_refused a.desk a.figures c.in_ok-samples.samples c.in_ok-samples.ensures e c.in_err-next.ensures) refl
 
-pub returns-else-read-eq-DONE : goal.returns-else-read-eq-DONE
-returns-else-read-eq-DONE c =
-    let read = c.samples-read in
+pub returns : goal.returns
+returns c =
     let a = c.args in
-    let put = c.refuse-else-read-eq-DONE in
-    let both = moved _ _ a.out.now _ _ (framed_unready a.desk a.figures read.result read.ensures c.if-read-eq-DONE.false) (put.ensures.value, put.ensures.out_after) in
-    record { value = both.0; out_after = both.1 }
+    steps_moved _ _ a.desk c.publish.result a.out.now _
+    (framed_done a.desk a.figures c.in_ok-samples.samples c.in_ok-samples.ensures c.in_ok-next.next c.in_ok-next.ensures) c.publish.ensures

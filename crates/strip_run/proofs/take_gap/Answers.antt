@@ -1,25 +1,14 @@
 -- `strip_run::take_gap` meets its contract. Assumes nothing.
-use Rattle.strip_run.proofs.Printed.{moved, gapped_done, gapped_refused}
+use Rattle.std.proofs.Common.{refl}
+use Rattle.strip_run.proofs.Printed.{stopped_by, steps_moved, gapped_refused, gapped_done}
 use Rattle.strip_run.proofs.take_gap.Goals as goal
 
-pub publish-requires : goal.publish-requires
-publish-requires c = c.requires
-
-pub refuse-requires : goal.refuse-requires
-refuse-requires c = c.requires
-
-pub returns-then-next-eq-DONE : goal.returns-then-next-eq-DONE
-returns-then-next-eq-DONE c =
-    let next = c.gap-next in
+pub returns-in_err-after : goal.returns-in_err-after
+returns-in_err-after c =
     let a = c.args in
-    let put = c.publish in
-    let both = moved _ _ a.out.now _ _ (gapped_done a.desk next.result next.ensures c.if-next-eq-DONE.true) (put.ensures.value, put.ensures.out_after) in
-    record { value = both.0; out_after = both.1 }
+    let e = c.in_err-after.field-0.0 in
+    stopped_by _ a.desk c.from_residual.result e a.out.now a.out.now c.from_residual.ensures.1
+    (gapped_refused a.desk e c.in_err-after.ensures) refl
 
-pub returns-else-next-eq-DONE : goal.returns-else-next-eq-DONE
-returns-else-next-eq-DONE c =
-    let next = c.gap-next in
-    let a = c.args in
-    let put = c.refuse in
-    let both = moved _ _ a.out.now _ _ (gapped_refused a.desk next.result next.ensures c.if-next-eq-DONE.false) (put.ensures.value, put.ensures.out_after) in
-    record { value = both.0; out_after = both.1 }
+pub returns : goal.returns
+returns c = steps_moved _ _ c.args.desk c.publish.result c.args.out.now _ (gapped_done c.args.desk c.in_ok-after.after c.in_ok-after.ensures) c.publish.ensures

@@ -7,9 +7,6 @@ use Rattle.strip_run.specs.declared.Desk.{Desk}
 use Rattle.strip_run.proofs.Printed.{moved}
 use Rattle.strip_run.proofs.tell.Goals as goal
 
-pub show-requires : goal.show-requires
-show-requires c = c.requires
-
 going : (d : Desk) (h : Handed) → d.more ≡ true → shown d h ≡ told d h
 unfolding told
 going d h e = rw e

@@ -2,15 +2,15 @@
 use Rattle.std.proofs.Common.{◌≡◌, Bool, true, false, not, ◌&&◌}
 use Rattle.strip_run.specs.Run.{verdict_of}
 use Rattle.strip_run.specs.declared.Run.{Run}
-use Rattle.strip_run.specs.declared.Verdict.TheVariants.{Nothing, Reply}
+use Rattle.std.specs.Prelude.{Some, None}
 use Rattle.strip_run.proofs.verdict_of.Goals as goal
 
 module _ (r : Run) (read written closed : Bool) where
-  told : read && written && closed && not r.desk.more ≡ true → Reply r.desk.reply ≡ verdict_of r read written closed
+  told : read && written && closed && not r.desk.more ≡ true → Some r.desk.reply ≡ verdict_of r read written closed
   unfolding verdict_of
   told e = rw e
 
-  untold : read && written && closed && not r.desk.more ≡ false → Nothing ≡ verdict_of r read written closed
+  untold : read && written && closed && not r.desk.more ≡ false → None ≡ verdict_of r read written closed
   unfolding verdict_of
   untold e = rw e
 

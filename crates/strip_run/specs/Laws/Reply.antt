@@ -6,13 +6,9 @@ use Rattle.std.proofs.lemmas.Bool.{false≢true, eqb-false}
 use Rattle.units.specs.Replies.{done}
 use Rattle.units.specs.declared.figures.Figures.{Figures}
 use Rattle.chain.specs.Calls as Chaining
-use Rattle.chain.specs.Calls.{Told, made, called, published_told, samples_told}
+use Rattle.chain.specs.Calls.{Made, Gapped, Reading, SamplesRead, Told, made, called, published_told, samples_told}
 use Rattle.chain.specs.declared.Chain.{Chain}
-use Rattle.chain.specs.declared.Gapped.{Gapped}
-use Rattle.chain.specs.declared.Made.{Made}
 use Rattle.chain.specs.declared.Published.{Published}
-use Rattle.chain.specs.declared.Reading.{Reading}
-use Rattle.chain.specs.declared.SamplesRead.{SamplesRead}
 use Rattle.strip_format.specs.Format.{version_of, Entry, figures, gap}
 use Rattle.strip_format.specs.Whole.{Strip, read_strip}
 use Rattle.strip_format.specs.declared.Head.{Head}

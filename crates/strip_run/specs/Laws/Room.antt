@@ -5,13 +5,9 @@ use Rattle.std.proofs.Common.{arith, ltb-true}
 use Rattle.units.specs.Replies.{done, no_room}
 use Rattle.units.specs.declared.figures.Figures.{Figures}
 use Rattle.chain.specs.Calls as Chaining
-use Rattle.chain.specs.Calls.{Told, made, called, published_told, samples_told}
+use Rattle.chain.specs.Calls.{Made, Gapped, Reading, SamplesRead, Told, made, called, published_told, samples_told}
 use Rattle.chain.specs.declared.Chain.{Chain}
-use Rattle.chain.specs.declared.Gapped.{Gapped}
-use Rattle.chain.specs.declared.Made.{Made}
 use Rattle.chain.specs.declared.Published.{Published}
-use Rattle.chain.specs.declared.Reading.{Reading}
-use Rattle.chain.specs.declared.SamplesRead.{SamplesRead}
 use Rattle.strip_format.specs.Format.{figures, gap}
 use Rattle.strip_lines.specs.Lines.{longest, gap_kind, record_line}
 use Rattle.strip_lines.specs.Calls.{record_refusal}
@@ -20,10 +16,9 @@ use Rattle.strip_reader.specs.Reader.{Handed, more, head, entry, end, refused}
 use Rattle.strip_reader.specs.Telling.{Shown, unchanged}
 use Rattle.strip_reader.specs.Laws.Telling.{taken_most}
 use Rattle.strip_run.specs.Lines.{after, refused_at, begun_with, begun, silence, lined, published_with, published, answered, framed_with, framed, gapped_with, gapped, shown, told}
-use Rattle.strip_run.specs.Run.{taken_lines, taken_run, taken_of}
+use Rattle.strip_run.specs.Run.{Taken, taken_lines, taken_run, taken_of}
 use Rattle.strip_run.specs.declared.Desk.{Desk}
 use Rattle.strip_run.specs.declared.Run.{Run}
-use Rattle.strip_run.specs.declared.Taken.{Taken}
 
 -- what is printed has room
 abbrev Roomy : Shown Desk → Type 0

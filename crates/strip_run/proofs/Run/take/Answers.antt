@@ -1,67 +1,59 @@
 -- `strip_run::Run::take` meets its contract. Assumes nothing.
-use Rattle.std.proofs.Common.{◌≡◌, ℕ, ◌/◌, ◌<◌, ◌≤◌, List, [], ◌∷◌, ◌++◌, length, drop, refl, ◌∙◌, arith, le-ltb, lt-ltb}
+use Rattle.std.proofs.Common.{◌≡◌, ℕ, ◌/◌, ◌<◌, ◌≤◌, List, [], ◌∷◌, ◌++◌, length, drop, refl, ap, ◌∙◌, arith, le-ltb, lt-ltb}
+use Rattle.std.proofs.lemmas.Grind.{common_steps}
+use Rattle.std.specs.Prelude.{Ok, Err}
+use Rattle.units.specs.Handed.{number_of}
+use Rattle.units.specs.declared.refusals.Refusal.TheVariants as R
 use Rattle.strip_lines.specs.Lines.{longest}
 use Rattle.strip_reader.specs.Telling.{ran, ended, taken}
 use Rattle.strip_run.specs.Lines.{told}
-use Rattle.strip_run.specs.Run.{stopped, run_of, taken_lines, taken_run, taken_of, out_of}
+use Rattle.strip_run.specs.Run.{stopped, run_of, taken_lines, taken_run, taken_of, taken_told, out_of}
 use Rattle.strip_run.specs.declared.Run.{Run}
 use Rattle.strip_run.specs.declared.Taken.{Taken}
 use Rattle.strip_run.proofs.Run.take.Goals as goal
 
--- some lines have room where their number is below how many have
-some-room : (n m : ℕ) → n < m / longest → longest ≤ m
-some-room n m h = omega arith
-
-pub finish-requires : goal.finish-requires
-finish-requires c = some-room _ _ c.if-block-space.true
-
-pub take_bytes-requires : goal.take_bytes-requires
-take_bytes-requires c = c.if-block-space.true
-
 -- a block that has room: an empty one, and one that is not
-end_is : (r : Run) (block out : List ℕ) {answer : Taken} {end : List ℕ} → length block < length out / longest → length block ≡ 0
-    → answer ≡ record { reply = 0; run = stopped (run_of (ended told r.reader r.desk)); length = length (ended told r.reader r.desk).lines }
+end_is : (r : Run) (block out : List ℕ) (t : Taken) (end : List ℕ) → length block < length out / longest → length block ≡ 0
+    → t.run ≡ stopped (run_of (ended told r.reader r.desk)) → t.length ≡ length (ended told r.reader r.desk).lines
     → end ≡ (ended told r.reader r.desk).lines ++ drop (length (ended told r.reader r.desk).lines) out
-    → (answer ≡ taken_of r block (length out)) × (end ≡ out_of r block out)
-unfolding taken_of out_of taken_run taken_lines taken
-end_is r [] out l h p q = (p ∙ rw (lt-ltb 0 (length out / longest) l), q ∙ rw (lt-ltb 0 (length out / longest) l))
-end_is r (b ∷ bs) out l h p q = absurd (omega arith)
+    → (taken_told r (Ok t) ≡ taken_of r block (length out)) × (end ≡ out_of r block out)
+unfolding taken_told taken_of out_of taken_run taken_lines taken
+end_is r [] out t end l h p n q = (rw (lt-ltb 0 (length out / longest) l, p, n), q ∙ rw (lt-ltb 0 (length out / longest) l))
+end_is r (b ∷ bs) out t end l h p n q = absurd (omega arith)
 
-bytes-are : (r : Run) (block out : List ℕ) {answer : Taken} {end : List ℕ} → length block < length out / longest → (length block ≡ 0 → ⊥)
-    → answer ≡ record { reply = 0; run = run_of (ran told r.reader r.desk block); length = length (ran told r.reader r.desk block).lines }
+bytes-are : (r : Run) (block out : List ℕ) (t : Taken) (end : List ℕ) → length block < length out / longest → (length block ≡ 0 → ⊥)
+    → t.run ≡ run_of (ran told r.reader r.desk block) → t.length ≡ length (ran told r.reader r.desk block).lines
     → end ≡ (ran told r.reader r.desk block).lines ++ drop (length (ran told r.reader r.desk block).lines) out
-    → (answer ≡ taken_of r block (length out)) × (end ≡ out_of r block out)
-unfolding taken_of out_of taken_run taken_lines taken
-bytes-are r [] out l h p q = absurd (h refl)
-bytes-are r (b ∷ bs) out l h p q =
+    → (taken_told r (Ok t) ≡ taken_of r block (length out)) × (end ≡ out_of r block out)
+unfolding taken_told taken_of out_of taken_run taken_lines taken
+bytes-are r [] out t end l h p n q = absurd (h refl)
+bytes-are r (b ∷ bs) out t end l h p n q =
     let few = lt-ltb (length (b ∷ bs)) (length out / longest) l in
-    (p ∙ rw few, q ∙ rw few)
-
-pub returns-then-block-eq0 : goal.returns-then-block-eq0
-returns-then-block-eq0 c =
-    let a = c.args in
-    let last = c.finish in
-    let both = end_is a.self a.block.now a.out.now c.if-block-space.true c.if-block-eq0.true
-    last.ensures.value last.ensures.out_after in
-    record { value = both.0; out_after = both.1 }
-
-pub returns-else-block-eq0 : goal.returns-else-block-eq0
-returns-else-block-eq0 c =
-    let a = c.args in
-    let last = c.take_bytes in
-    let few = c.if-block-space.true in
-    let some = c.if-block-eq0.false in
-    let both = bytes-are a.self a.block.now a.out.now few some last.ensures.value last.ensures.out_after in
-    record { value = both.0; out_after = both.1 }
+    (rw (few, p, n), q ∙ rw few)
 
 -- a buffer without room
 no_room : (r : Run) (block out : List ℕ) → length out / longest ≤ length block
-    → (record { reply = 8; run = r; length = 0 } ≡ taken_of r block (length out)) × (out ≡ out_of r block out)
-unfolding taken_of out_of
+    → (taken_told r (Err R.Room) ≡ taken_of r block (length out)) × (out ≡ out_of r block out)
+unfolding taken_told number_of taken_of out_of
 no_room r block out l = (rw (le-ltb (length block) (length out / longest) l), rw (le-ltb (length block) (length out / longest) l))
 
-pub returns-else-block-space : goal.returns-else-block-space
-returns-else-block-space c =
+pub returns-then-block-out : goal.returns-then-block-out
+returns-then-block-out c =
+    let both = no_room c.args.self c.args.block.now c.args.out.now c.if-block-out.true in
+    record { value = both.0; out_after = both.1 }
+
+pub returns-then-is_empty : goal.returns-then-is_empty
+returns-then-is_empty c =
     let a = c.args in
-    let both = no_room a.self a.block.now a.out.now c.if-block-space.false in
+    let last = c.finish in
+    let none : length a.block.now ≡ 0 = grind (arith, common_steps) in
+    let both = end_is a.self a.block.now a.out.now last.result _ c.if-block-out.false none last.ensures.run last.ensures.length last.ensures.out_after in
+    record { value = both.0; out_after = both.1 }
+
+pub returns-else-is_empty : goal.returns-else-is_empty
+returns-else-is_empty c =
+    let a = c.args in
+    let last = c.take_bytes in
+    let some : length a.block.now ≡ 0 → ⊥ = λ (e : length a.block.now ≡ 0). grind (arith, common_steps) in
+    let both = bytes-are a.self a.block.now a.out.now last.result _ c.if-block-out.false some last.ensures.run last.ensures.length last.ensures.out_after in
     record { value = both.0; out_after = both.1 }
