@@ -3,8 +3,7 @@
 
 #![tactic(auto)]
 
-ghost use Rattle.std.specs.Prelude.{◌≡◌, ◌≢◌, false, length, take, IsOk, IsErr, IfErr, IsErrAnd};
-ghost use Rattle.std.specs.Bool.{OnFalse};
+ghost use Rattle.std.specs.Prelude.{◌≡◌, ◌≢◌, length, take, IsOk, IsErr, IfErr, IsErrAnd};
 ghost use Rattle.std.specs.Result.{result_ok};
 ghost use Rattle.std.specs.Str.{IsUtf8};
 ghost use Rattle.std.specs.IoError.{error_kind};
@@ -88,7 +87,7 @@ pub fn fail(rt: &HostRuntime, what: &str, error: Error) {
 }
 
 // Hands on what went well. What failed is told on standard error, as the caller names it, and there is nothing.
-pub fn or_tell<T>(rt: &HostRuntime, what: &str, answer: Result<T>) -> Option<T>
+pub fn or_tell<T: Drop>(rt: &HostRuntime, what: &str, answer: Result<T>) -> Option<T>
     ensures { result ≡ result_ok answer }
 {
     match answer {
@@ -143,16 +142,4 @@ pub fn settle_output(rt: &HostRuntime) -> Result<()> {
     } else {
         Ok(())
     }
-}
-
-// The same where all went well so far, and whether that does too. What fails is told, as the caller names the output.
-pub fn settle_if_well(rt: &HostRuntime, what: &str, well: bool) -> bool
-    ensures { OnFalse well (result ≡ false) }
-{
-    well && or_tell(rt, what, settle_output(rt)).is_some()
-}
-
-// Writes bytes to standard output, and answers whether that went well. What fails is told, as the caller names the output.
-pub fn write_output(rt: &HostRuntime, what: &str, bytes: &[u8]) -> bool {
-    or_tell(rt, what, rt.write_all(bytes)).is_some()
 }

@@ -36,8 +36,9 @@ fn read_block(rt: &HostRuntime, block: &mut [u8]) -> Option<usize>
 fn take_block(rt: &HostRuntime, run: Run, block: &[u8], out: &mut [u8]) -> (Run, bool) {
     match run.take(block, out) {
         Ok(taken) => {
-            let written = outside::write_output(rt, OUTPUT, &out[..taken.length]);
-            (taken.run, written)
+            let lines = &out[..taken.length];
+            let written = outside::or_tell(rt, OUTPUT, rt.write_all(lines));
+            (taken.run, written.is_some())
         }
         Err(_) => {
             outside::tell(rt, "strip: the lines do not fit\n");
@@ -64,7 +65,9 @@ fn run_strip(rt: &HostRuntime, capacity: u32) {
             break;
         }
     }
-    let settled = outside::settle_if_well(rt, OUTPUT, read & written);
+    // Output is settled where all went well so far; what fails there is told as a write that fails is.
+    let settled = read & written
+        && outside::or_tell(rt, OUTPUT, outside::settle_output(rt)).is_some();
     if let Some(reply) = verdict_of(run, read, written, settled) {
         io::print_decimal(REPLY_FILENO, u64::from(reply));
     }
