@@ -3,7 +3,6 @@
 ghost use Rattle.std.specs.Prelude.{◌≡◌, min, length};
 ghost use Rattle.io.specs.Counts.{IsPrefixLen};
 
-use crate::told;
 use recording_run::input::{Filled, after_read, empty};
 use recording_run::levelling::behind_bytes;
 use std::fs::File;
@@ -14,6 +13,16 @@ use std::io::{Read, Result};
 pub(crate) enum Inlet<'a> {
     Standard,
     Strip(&'a File),
+}
+
+impl Inlet<'_> {
+    // How a read of it that failed is told.
+    fn name(self) -> &'static str {
+        match self {
+            Inlet::Standard => "recording: standard input",
+            Inlet::Strip(_) => "recording: the strip",
+        }
+    }
 }
 
 // The most bytes that a frame has.
@@ -31,7 +40,7 @@ pub(crate) fn within(n: usize, buffer: &[u8]) -> usize
     ensures prefix_len { IsPrefixLen result buffer.now }
     ensures value { result ≡ min n (length buffer.now) }
 {
-    if n < buffer.len() { n } else { buffer.len() }
+    n.min(buffer.len())
 }
 
 // Reads once, to the start of a buffer.
@@ -49,26 +58,25 @@ fn read(rt: &HostRuntime, from: Inlet<'_>, buffer: &mut [u8]) -> Result<usize> {
 pub(crate) fn read_once(rt: &HostRuntime, from: Inlet<'_>, buffer: &mut [u8], n: usize) -> Filled {
     let most = buffer.len();
     if n < most {
-        match read(rt, from, &mut buffer[n..]) {
-            Ok(came) => after_read(n, came, false, most),
-            Err(e) => {
-                told::unread(rt, from, e);
-                after_read(n, 0, true, most)
-            }
+        let answer = read(rt, from, &mut buffer[n..]);
+        match outside::or_tell(rt, from.name(), answer) {
+            Some(came) => after_read(n, came, false, most),
+            None => after_read(n, 0, true, most),
         }
     } else {
         after_read(n, 0, false, most)
     }
 }
 
-// Reads until a buffer is full, the input ends or a read fails. A proved loop has to end, so it counts its
-// turns down, from a number that no run uses up.
+// Reads until a buffer is full, the input ends or a read fails. A proved loop has to end, so its turns are counted, up to a
+// number that no run uses up.
 pub(crate) fn fill(rt: &HostRuntime, from: Inlet<'_>, buffer: &mut [u8]) -> Filled {
     let mut filled = empty(buffer.len());
-    let mut turns = u64::MAX;
-    while turns > 0 && filled.more {
+    for _ in 0..u64::MAX {
+        if !filled.more {
+            break;
+        }
         filled = read_once(rt, from, buffer, filled.n);
-        turns -= 1;
     }
     filled
 }

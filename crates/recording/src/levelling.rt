@@ -4,24 +4,22 @@ use crate::input::{Inlet, fill_some, look_behind, room};
 use crate::output::{Outlet, settle, write, write_first};
 use crate::strip::draw_next;
 use crate::told;
-use recording_run::answer::{Answer, of_run};
+use recording_run::answer::of_run;
 use recording_run::levelling::{
-    Run, Told, after_write, frame_bytes, hear, heard_run, put_right, take_entry, told_at_end,
+    Run, after_write, frame_bytes, hear, heard_run, put_right, take_entry, told_at_end,
 };
 use recording_run::rest::{Rest, take_rest};
 use recording_run::strip::Source;
 use std::fs::File;
-use wav_format::head::LONGEST_HEAD;
+use wav_format::head::{Format, LONGEST_HEAD};
 
-// What stays the same from frame to frame: where the strip is read and the levelled file is written, the channels, the
-// samples of a channel, the mask, and the size that the file says of all samples.
+// What stays the same from frame to frame: where the strip is read and the levelled file is written, the format, and the
+// size that the file says of all samples.
 #[derive(Clone, Copy)]
 pub(crate) struct Desk<'s, 'o> {
     pub strip: &'s File,
     pub out: Outlet<'o>,
-    pub channels: usize,
-    pub samples: usize,
-    pub mask: u32,
+    pub format: Format,
     pub size: u32,
 }
 
@@ -50,24 +48,29 @@ fn take_next(
     n: usize,
     both: Both,
 ) -> Taken {
-    let before = both.source;
-    let heard = both.run;
-    let drawn = draw_next(rt, desk.strip, block, before);
-    let got = drawn.got;
-    let turn = take_entry(heard, n, got, bytes, desk.channels, desk.samples);
-    let told = turn.told;
-    told::of_run(rt, told);
-    let run = turn.run;
-    let source = drawn.source;
+    let drawn = draw_next(rt, desk.strip, block, both.source);
+    let format = desk.format;
+    let turn = take_entry(
+        both.run,
+        n,
+        drawn.got,
+        bytes,
+        format.channels,
+        format.samples,
+    );
+    told::of_run(rt, turn.told);
     Taken {
-        both: Both { run, source },
+        both: Both {
+            run: turn.run,
+            source: drawn.source,
+        },
         n: turn.n,
         again: turn.again,
     }
 }
 
 // Takes the gaps that the strip has before the figures of a frame, of which so many bytes were heard, and these, and writes
-// the frame. A proved loop has to end, so it counts its turns down, from a number that no run uses up.
+// the frame. A proved loop has to end, so its turns are counted, up to a number that no run uses up.
 fn with_record(
     rt: &HostRuntime,
     desk: Desk<'_, '_>,
@@ -81,18 +84,16 @@ fn with_record(
         n: 0,
         again: true,
     };
-    let mut turns = u64::MAX;
-    while turns > 0 && now.again {
-        let before = now.both;
-        now = take_next(rt, desk, block, bytes, n, before);
-        turns -= 1;
+    for _ in 0..u64::MAX {
+        if !now.again {
+            break;
+        }
+        now = take_next(rt, desk, block, bytes, n, now.both);
     }
     let last = now.both;
-    let run = last.run;
-    let source = last.source;
     Both {
-        run: after_write(run, write(rt, desk.out, bytes, now.n)),
-        source,
+        run: after_write(last.run, write(rt, desk.out, bytes, now.n)),
+        source: last.source,
     }
 }
 
@@ -105,11 +106,13 @@ fn next_frame(
     both: Both,
 ) -> Both {
     let run = both.run;
-    let source = both.source;
     let filled = fill_some(rt, Inlet::Standard, bytes, run.left);
-    let n = hear(bytes, filled.n, desk.channels);
+    let n = hear(bytes, filled.n, desk.format.channels);
     let heard = heard_run(run, n, filled.failed);
-    let now = Both { run: heard, source };
+    let now = Both {
+        run: heard,
+        source: both.source,
+    };
     if heard.more {
         with_record(rt, desk, block, bytes, n, now)
     } else {
@@ -117,8 +120,8 @@ fn next_frame(
     }
 }
 
-// Takes the frames one after the other. A proved loop has to end, so it counts its turns down, from a number that no
-// run uses up.
+// Takes the frames one after the other. A proved loop has to end, so its turns are counted, up to a number that no run uses
+// up.
 fn take_frames(
     rt: &HostRuntime,
     desk: Desk<'_, '_>,
@@ -127,14 +130,11 @@ fn take_frames(
     both: Both,
 ) -> Both {
     let mut now = both;
-    let first = both.run;
-    let mut more = first.more;
-    let mut turns = u64::MAX;
-    while turns > 0 && more {
+    for _ in 0..u64::MAX {
+        if !now.run.more {
+            break;
+        }
         now = next_frame(rt, desk, block, bytes, now);
-        let run = now.run;
-        more = run.more;
-        turns -= 1;
     }
     now
 }
@@ -142,7 +142,7 @@ fn take_frames(
 // Takes all frames.
 fn take_all(rt: &HostRuntime, desk: Desk<'_, '_>, block: &mut [u8], both: Both) -> Both {
     let mut bytes = room();
-    let n = frame_bytes(desk.channels, desk.samples);
+    let n = frame_bytes(desk.format.channels, desk.format.samples);
     take_frames(rt, desk, block, &mut bytes[..n], both)
 }
 
@@ -153,14 +153,7 @@ fn right_head(rt: &HostRuntime, desk: Desk<'_, '_>, run: Run) -> bool {
         Outlet::Standard => true,
         Outlet::Named(file) => {
             let mut head = [0u8; LONGEST_HEAD];
-            let n = put_right(
-                run,
-                desk.channels,
-                desk.samples,
-                desk.mask,
-                desk.size,
-                &mut head,
-            );
+            let n = put_right(run, desk.format, desk.size, &mut head);
             if 0 < n {
                 write_first(rt, file, &head, n)
             } else {
@@ -170,36 +163,34 @@ fn right_head(rt: &HostRuntime, desk: Desk<'_, '_>, run: Run) -> bool {
     }
 }
 
-// Takes the gaps that the strip has behind the last frame, and what comes then. A proved loop has to end, so it counts its
-// turns down, from a number that no run uses up.
+// Takes the gaps that the strip has behind the last frame, and what comes then. A proved loop has to end, so its turns are
+// counted, up to a number that no run uses up.
 fn rest_of(rt: &HostRuntime, strip: &File, block: &mut [u8], both: Both) -> Rest {
-    let first = both.run;
     let mut source = both.source;
     let mut now = Rest {
-        run: first,
+        run: both.run,
         goes: false,
         again: true,
         failed: false,
     };
-    let mut turns = u64::MAX;
-    while turns > 0 && now.again {
+    for _ in 0..u64::MAX {
+        if !now.again {
+            break;
+        }
         let drawn = draw_next(rt, strip, block, source);
         source = drawn.source;
-        let got = drawn.got;
-        let run = now.run;
-        now = take_rest(run, got);
-        turns -= 1;
+        now = take_rest(now.run, drawn.got);
     }
     now
 }
 
 // The end of a run that went well: it looks whether there is more behind the samples and in the strip, puts the head right
 // and settles the output.
-fn end_well(rt: &HostRuntime, desk: Desk<'_, '_>, block: &mut [u8], both: Both) -> Answer {
+fn end_well(rt: &HostRuntime, desk: Desk<'_, '_>, block: &mut [u8], both: Both) -> Option<u32> {
     let behind = look_behind(rt, desk.size);
     let rest = rest_of(rt, desk.strip, block, both);
     let run = rest.run;
-    let told = told_at_end(run, desk.size, desk.channels, behind.n, rest.goes);
+    let told = told_at_end(run, desk.size, desk.format.channels, behind.n, rest.goes);
     told::of_run(rt, told);
     let righted = right_head(rt, desk, run);
     let settled = settle(rt, desk.out, righted);
@@ -207,13 +198,13 @@ fn end_well(rt: &HostRuntime, desk: Desk<'_, '_>, block: &mut [u8], both: Both) 
 }
 
 // Levels all frames, and answers what is said at the end.
-pub(crate) fn level(rt: &HostRuntime, desk: Desk<'_, '_>, block: &mut [u8], both: Both) -> Answer {
+pub(crate) fn level(rt: &HostRuntime, desk: Desk<'_, '_>, block: &mut [u8], both: Both) -> Option<u32> {
     let last = take_all(rt, desk, block, both);
     let run = last.run;
     if run.well {
         end_well(rt, desk, block, last)
     } else {
         let settled = settle(rt, desk.out, false);
-        of_run(run, Told::Nothing, false, settled)
+        of_run(run, None, false, settled)
     }
 }

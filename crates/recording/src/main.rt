@@ -28,14 +28,13 @@ use recording_run::answer::of_refusal;
 use recording_run::levelling::after_write;
 use recording_run::strip::Source;
 use recording_run::wave::{Search, Stage};
-use ring_word::{Asked, ring_asked};
+use ring_word::ring_asked;
 use std::fs::{File, OpenOptions};
 use std::io::Result;
-use std::num::{wrapping_add_usize, wrapping_sub_usize};
 use strip::draw_next;
 use strip_format::Head;
 use strip_reader::Got;
-use units::replies::{DONE, SHAPE};
+use units::refusals::Refusal;
 use wav_format::head::LONGEST_HEAD;
 use wave::find;
 
@@ -60,37 +59,31 @@ fn with_samples(
     size: u32,
 ) {
     let mut bytes = [0u8; LONGEST_HEAD];
-    let begun = recording_run::levelling::begin(
-        head,
-        wish.capacity,
-        search.channels,
-        search.samples,
-        search.mask,
-        size,
-        &mut bytes,
-    );
-    if begun.reply == DONE {
-        if let Some(output) = output::open(rt, wish.output) {
-            let out = outlet_of(&output);
-            let desk = Desk {
-                strip: wish.strip,
-                out,
-                channels: search.channels,
-                samples: search.samples,
-                mask: search.mask,
-                size,
-            };
-            let first = begun.run;
-            let run = after_write(first, write(rt, out, &bytes, begun.head));
-            let both = Both { run, source };
-            told::at_end(level(rt, desk, block, both));
+    let format = search.format;
+    match recording_run::levelling::begin(head, wish.capacity, format, size, &mut bytes) {
+        Ok(begun) => {
+            if let Some(output) = output::open(rt, wish.output) {
+                let out = outlet_of(&output);
+                let desk = Desk {
+                    strip: wish.strip,
+                    out,
+                    format,
+                    size,
+                };
+                let run = after_write(begun.run, write(rt, out, &bytes, begun.head));
+                let both = Both { run, source };
+                told::at_end(level(rt, desk, block, both));
+            }
         }
-    } else if begun.reply == SHAPE {
-        told::samples_differ(rt, head.samples, search.samples);
-    } else {
-        told::refused(rt, begun.reply, 0);
-        told::at_end(of_refusal(begun.reply));
+        Err(Refusal::Shape) => told::samples_differ(rt, head.samples, format.samples),
+        Err(refused) => refuse(rt, refused.number()),
     }
+}
+
+// Tells that a strip is refused at its head, and with which reply.
+fn refuse(rt: &HostRuntime, reply: u32) {
+    told::refused(rt, reply, 0);
+    told::at_end(of_refusal(reply));
 }
 
 // Levels the samples that were found with a strip. The first that comes out of it is its head, or a refusal, or nothing
@@ -98,14 +91,10 @@ fn with_samples(
 fn with_strip(rt: &HostRuntime, wish: Wish<'_>, search: Search, size: u32) {
     let mut block = io::buffer();
     let drawn = draw_next(rt, wish.strip, &mut block, recording_run::strip::begin());
-    let got = drawn.got;
     let source = drawn.source;
-    match got {
+    match drawn.got {
         Got::Head(head) => with_samples(rt, wish, &mut block, source, head, search, size),
-        Got::Refused(reply) => {
-            told::refused(rt, reply, 0);
-            told::at_end(of_refusal(reply));
-        }
+        Got::Refused(reply) => refuse(rt, reply),
         Got::More | Got::Record(_) | Got::Gap | Got::End => {}
     }
 }
@@ -114,8 +103,7 @@ fn with_strip(rt: &HostRuntime, wish: Wish<'_>, search: Search, size: u32) {
 // a meter may still be making of the same sound.
 fn with_sound(rt: &HostRuntime, wish: Wish<'_>) {
     let search = find(rt);
-    let stage = search.stage;
-    match stage {
+    match search.stage {
         Stage::Start | Stage::Chunk | Stage::Format(_) | Stage::Skip(_) => {}
         Stage::Samples(size) => with_strip(rt, wish, search, size),
         Stage::Over(fault) => told::of_search(rt, fault),
@@ -132,16 +120,15 @@ fn open_strip(rt: &HostRuntime, word: usize) -> Result<File> {
 // Meters the recording. A search that is over has found samples, or is told.
 fn without_strip(rt: &HostRuntime) {
     let search = find(rt);
-    let stage = search.stage;
-    match stage {
+    match search.stage {
         Stage::Start | Stage::Chunk | Stage::Format(_) | Stage::Skip(_) => {}
         Stage::Samples(size) => told::at_end(meter_samples(rt, search, size)),
         Stage::Over(fault) => told::of_search(rt, fault),
     }
 }
 
-// What the words ask for of the ring.
-fn asked(rt: &HostRuntime) -> Asked {
+// What the words ask for of the ring, where they can have it.
+fn asked(rt: &HostRuntime) -> Option<ring_word::Wish> {
     let mut first = io::buffer();
     let mut second = io::buffer();
     let n = outside::word(rt, 1, &mut first);
@@ -151,36 +138,35 @@ fn asked(rt: &HostRuntime) -> Asked {
 
 // Levels the recording with the strip that the word of this number names. The word after it may name the output.
 fn with_words(rt: &HostRuntime, from: usize, capacity: u32) {
-    match open_strip(rt, from) {
-        Ok(file) => {
-            let strip = &file;
-            with_sound(
-                rt,
-                Wish {
-                    strip,
-                    output: wrapping_add_usize(from, 1),
-                    capacity,
-                },
-            );
-        }
-        Err(e) => outside::fail(rt, "recording: the strip", e),
+    let strip = outside::or_tell(rt, "recording: the strip", open_strip(rt, from));
+    if let Some(file) = strip {
+        let wish = Wish {
+            strip: &file,
+            output: from.wrapping_add(1),
+            capacity,
+        };
+        with_sound(rt, wish);
+    }
+}
+
+// Levels the recording as so many words ask for.
+fn with_ring(rt: &HostRuntime, count: usize, ring: ring_word::Wish) {
+    match count.wrapping_sub(ring.from) {
+        1 | 2 => with_words(rt, ring.from, ring.capacity),
+        _ => outside::tell(
+            rt,
+            "recording: it takes the path of a strip, and may take that of the levelled file: recording [--ring N] STRIP [OUT] < in.wav\n",
+        ),
     }
 }
 
 fn main(rt: HostRuntime) {
     let count = outside::word_count(&rt);
-    let ring = asked(&rt);
-    let behind = wrapping_sub_usize(count, ring.from);
     if count <= 1 {
         without_strip(&rt);
-    } else if !ring.ok {
-        outside::tell(&rt, "recording: --ring wants a number from 1 to 16\n");
-    } else if (behind == 1) | (behind == 2) {
-        with_words(&rt, ring.from, ring.capacity);
+    } else if let Some(ring) = asked(&rt) {
+        with_ring(&rt, count, ring);
     } else {
-        outside::tell(
-            &rt,
-            "recording: it takes the path of a strip, and may take that of the levelled file: recording [--ring N] STRIP [OUT] < in.wav\n",
-        );
+        outside::tell(&rt, "recording: --ring wants a number from 1 to 16\n");
     }
 }

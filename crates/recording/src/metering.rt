@@ -4,8 +4,8 @@ use crate::input::{Inlet, fill_some, look_behind, room};
 use crate::output::{Outlet, settle, write};
 use crate::told;
 use loudness::{FORMAT_BYTES, RECORD_BYTES};
-use recording_run::answer::{Answer, of_metering};
-use recording_run::levelling::{Told, frame_bytes, hear};
+use recording_run::answer::of_metering;
+use recording_run::levelling::{frame_bytes, hear};
 use recording_run::metering::{Meter, after_write, begin, heard_meter, meter_sound, told_at_end};
 use recording_run::wave::Search;
 
@@ -20,8 +20,7 @@ fn with_sound(
 ) -> Meter {
     let mut out = [0u8; RECORD_BYTES];
     let turn = meter_sound(meter, n, bytes, channels, samples, &mut out);
-    let next = turn.meter;
-    after_write(next, write(rt, Outlet::Standard, &out, turn.n))
+    after_write(turn.meter, write(rt, Outlet::Standard, &out, turn.n))
 }
 
 // Reads the next 10 ms and meters them; or ends the metering.
@@ -42,7 +41,7 @@ fn next_sound(
     }
 }
 
-// Meters all, 10 ms after the other. A proved loop has to end, so it counts its turns down, from a number that no metering
+// Meters all, 10 ms after the other. A proved loop has to end, so its turns are counted, up to a number that no metering
 // uses up.
 fn take_sounds(
     rt: &HostRuntime,
@@ -52,10 +51,11 @@ fn take_sounds(
     meter: Meter,
 ) -> Meter {
     let mut now = meter;
-    let mut turns = u64::MAX;
-    while turns > 0 && now.more {
+    for _ in 0..u64::MAX {
+        if !now.more {
+            break;
+        }
         now = next_sound(rt, channels, samples, bytes, now);
-        turns -= 1;
     }
     now
 }
@@ -68,7 +68,7 @@ fn take_all(rt: &HostRuntime, channels: usize, samples: usize, meter: Meter) -> 
 }
 
 // The end of a metering that went well: it looks whether there is more behind the samples, and settles the output.
-fn end_well(rt: &HostRuntime, channels: usize, size: u32, meter: Meter) -> Answer {
+fn end_well(rt: &HostRuntime, channels: usize, size: u32, meter: Meter) -> Option<u32> {
     let behind = look_behind(rt, size);
     let told = told_at_end(meter, size, channels, behind.n);
     told::of_run(rt, told);
@@ -77,18 +77,17 @@ fn end_well(rt: &HostRuntime, channels: usize, size: u32, meter: Meter) -> Answe
 }
 
 // Meters the samples that were found, whose chunk says this size, and answers what is said at the end.
-pub(crate) fn meter_samples(rt: &HostRuntime, search: Search, size: u32) -> Answer {
+pub(crate) fn meter_samples(rt: &HostRuntime, search: Search, size: u32) -> Option<u32> {
     let mut out = [0u8; FORMAT_BYTES];
-    let channels = search.channels;
-    let samples = search.samples;
+    let channels = search.format.channels;
+    let samples = search.format.samples;
     let begun = begin(channels, samples, size, &mut out);
-    let first = begun.meter;
-    let meter = after_write(first, write(rt, Outlet::Standard, &out, begun.n));
+    let meter = after_write(begun.meter, write(rt, Outlet::Standard, &out, begun.n));
     let last = take_all(rt, channels, samples, meter);
     if last.well {
         end_well(rt, channels, size, last)
     } else {
         let settled = settle(rt, Outlet::Standard, false);
-        of_metering(last, Told::Nothing, false, settled)
+        of_metering(last, None, false, settled)
     }
 }

@@ -1,7 +1,6 @@
 // The levelled file: one that is named, or standard output.
 
 use crate::input::within;
-use crate::told;
 use std::fs::{File, OpenOptions};
 use std::io::{Result, Seek, SeekFrom, Write};
 use std::os::fd::AsRawFd;
@@ -18,6 +17,16 @@ pub(crate) enum Output {
 pub(crate) enum Outlet<'a> {
     Standard,
     Named(&'a File),
+}
+
+impl Outlet<'_> {
+    // How a write to it that failed is told.
+    fn name(self) -> &'static str {
+        match self {
+            Outlet::Standard => "recording: standard output",
+            Outlet::Named(_) => "recording: the output",
+        }
+    }
 }
 
 // The number of standard error.
@@ -52,13 +61,7 @@ fn taken(file: File) -> Option<Output> {
 // fails it is told, and there is none.
 pub(crate) fn open(rt: &HostRuntime, word: usize) -> Option<Output> {
     if word < outside::word_count(rt) {
-        match open_named(rt, word) {
-            Ok(file) => taken(file),
-            Err(e) => {
-                outside::fail(rt, "recording: the output", e);
-                None
-            }
-        }
+        taken(outside::or_tell(rt, "recording: the output", open_named(rt, word))?)
     } else {
         Some(Output::Standard)
     }
@@ -78,22 +81,14 @@ fn write_all(rt: &HostRuntime, out: Outlet<'_>, bytes: &[u8]) -> Result<()> {
 // Writes so many bytes, and answers whether that went well. Where not, it is told.
 pub(crate) fn write(rt: &HostRuntime, out: Outlet<'_>, bytes: &[u8], n: usize) -> bool {
     let m = within(n, bytes);
-    match write_all(rt, out, &bytes[..m]) {
-        Ok(()) => true,
-        Err(e) => {
-            told::unwritten(rt, out, e);
-            false
-        }
-    }
+    let answer = write_all(rt, out, &bytes[..m]);
+    outside::or_tell(rt, out.name(), answer).is_some()
 }
 
 // Whether the next bytes go to the start of a file. What cannot be sought, as a pipe, has none.
 fn is_at_start(file: &File) -> bool {
     let mut named = file;
-    match named.seek(SeekFrom::Start(0)) {
-        Ok(at) => at == 0,
-        Err(_) => false,
-    }
+    matches!(named.seek(SeekFrom::Start(0)), Ok(0))
 }
 
 // Writes so many bytes over the first ones of a file. What cannot be sought, as a pipe, stays as it is.
@@ -115,13 +110,10 @@ fn settle_all(rt: &HostRuntime, out: Outlet<'_>) -> Result<()> {
 
 // Settles the output, and answers whether that went well. Where not, it is told; unless a write failed before, which was told.
 pub(crate) fn settle(rt: &HostRuntime, out: Outlet<'_>, well: bool) -> bool {
-    match settle_all(rt, out) {
-        Ok(()) => true,
-        Err(e) => {
-            if well {
-                told::unwritten(rt, out, e);
-            }
-            false
-        }
+    let answer = settle_all(rt, out);
+    if well {
+        outside::or_tell(rt, out.name(), answer).is_some()
+    } else {
+        answer.is_ok()
     }
 }

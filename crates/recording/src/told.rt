@@ -1,11 +1,7 @@
 // What is told on standard error, one line for each, and what is said at the end on a descriptor of its own.
 
-use crate::input::Inlet;
-use crate::output::Outlet;
-use recording_run::answer::Answer;
 use recording_run::levelling::Told;
 use recording_run::wave::Fault;
-use std::io::Error;
 
 // Where it is said at the end that all went well, or with which reply the strip was refused.
 const END_FILENO: i32 = 3;
@@ -13,22 +9,6 @@ const END_FILENO: i32 = 3;
 // Tells a number, with a text before it and one after it.
 pub(crate) fn tell_number(rt: &HostRuntime, before: &str, n: u64, after: &str) {
     let _ = eprint!(rt; "{before}{n}{after}");
-}
-
-// A read that failed, of standard input or of the strip.
-pub(crate) fn unread(rt: &HostRuntime, from: Inlet<'_>, error: Error) {
-    match from {
-        Inlet::Standard => outside::fail(rt, "recording: standard input", error),
-        Inlet::Strip(_) => outside::fail(rt, "recording: the strip", error),
-    }
-}
-
-// A write that failed, of standard output or of a file that is named.
-pub(crate) fn unwritten(rt: &HostRuntime, to: Outlet<'_>, error: Error) {
-    match to {
-        Outlet::Standard => outside::fail(rt, "recording: standard output", error),
-        Outlet::Named(_) => outside::fail(rt, "recording: the output", error),
-    }
 }
 
 // Why there are no samples to level. A read that failed was told before.
@@ -86,10 +66,16 @@ pub(crate) fn refused(rt: &HostRuntime, reply: u32, number: u64) {
     tell_number(rt, "", reply as u64, "\n");
 }
 
-// What is told of a run.
-pub(crate) fn of_run(rt: &HostRuntime, told: Told) {
+// What is told of a run, if anything is.
+pub(crate) fn of_run(rt: &HostRuntime, told: Option<Told>) {
+    if let Some(told) = told {
+        of_one(rt, told);
+    }
+}
+
+// One thing that is told of a run.
+fn of_one(rt: &HostRuntime, told: Told) {
     match told {
-        Told::Nothing => {}
         Told::Minute(n) => tell_number(rt, "recording: ", n, " min\n"),
         Told::StripEnds(number) => tell_number(
             rt,
@@ -118,8 +104,8 @@ pub(crate) fn of_run(rt: &HostRuntime, told: Told) {
 }
 
 // What is said at the end, if anything is. Where nobody listens, nothing comes of it.
-pub(crate) fn at_end(answer: Answer) {
-    if answer.tell {
-        io::print_decimal(END_FILENO, answer.reply as u64);
+pub(crate) fn at_end(answer: Option<u32>) {
+    if let Some(reply) = answer {
+        io::print_decimal(END_FILENO, u64::from(reply));
     }
 }

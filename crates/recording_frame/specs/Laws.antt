@@ -2,3 +2,4 @@
 pub mod Ways
 pub mod Lengths
 pub mod Written
+pub mod Numbers

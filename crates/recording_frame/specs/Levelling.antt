@@ -6,7 +6,11 @@ use Rattle.frames.specs.Shape.{is_shape}
 use Rattle.chain.specs.Calls.{called}
 use Rattle.chain.specs.declared.Chain.{Chain}
 use Rattle.wav_format.specs.Samples.{heard_from, frame_written}
-use Rattle.recording_frame.specs.declared.Levelled.{Levelled}
+
+-- a reply's number, and the chain that goes on: the one that came in, where the frame is refused
+pub record Levelled : Type 0 where
+  pub reply : ℕ
+  pub chain : Chain
 
 -- what is answered, and the bytes
 pub record Outcome : Type 0 where

@@ -3,12 +3,13 @@
 #![tactic(auto)]
 
 ghost use Rattle.std.specs.Prelude.{◌≡◌, ◌≤◌, length};
+ghost use Rattle.units.specs.Handed.{handed};
 ghost use Rattle.recording_frame.specs.Levelling.{levelled};
 ghost use Rattle.recording_frame.specs.Steps.{room_for};
 
 use chain::Chain;
 use units::figures::Figures;
-use units::replies::DONE;
+use units::refusals::Refusal;
 use wav_format::samples::{read_frame, write_frame};
 
 // The most samples that a channel has, and a frame.
@@ -16,38 +17,13 @@ const CHANNEL_SAMPLES: usize = 480;
 
 const MOST_SAMPLES: usize = 3840;
 
-// A reply's number, and the chain that goes on: the one that came in, where the frame is refused.
-#[derive(Clone, Copy)]
-pub struct Levelled {
-    pub reply: u32,
-    pub chain: Chain,
-}
-
-// Room for the samples of a frame of one channel.
-fn quiet_channel() -> [f32; CHANNEL_SAMPLES]
-    ensures { 480 ≡ length result }
-{
-    [0.0; CHANNEL_SAMPLES]
-}
-
-// Room for the samples of any frame.
-fn quiet() -> [f32; MOST_SAMPLES]
-    ensures { 3840 ≡ length result }
-{
-    [0.0; MOST_SAMPLES]
-}
-
 // How much of the room a frame of this shape takes: none where it has more channels or samples than any frame.
 fn room_for(channels: usize, samples: usize) -> usize
     ensures upper_bound { result ≤ 3840 }
     ensures value { result ≡ room_for channels samples }
 {
-    if channels <= 8 {
-        if samples <= 480 {
-            channels * samples
-        } else {
-            0
-        }
+    if channels <= 8 && samples <= 480 {
+        channels * samples
     } else {
         0
     }
@@ -61,88 +37,53 @@ fn level_in(
     frame: &mut [f32],
     channels: usize,
     samples: usize,
-) -> Levelled
+) -> Result<Chain, Refusal>
     requires { length frame.old ≡ room_for channels samples }
-    ensures value { result ≡ (levelled chain figures bytes.old channels samples).next }
+    ensures value { result ≡ handed (levelled chain figures bytes.old channels samples).next.reply (levelled chain figures bytes.old channels samples).next.chain }
     ensures bytes_after { bytes.new ≡ (levelled chain figures bytes.old channels samples).bytes }
 {
-    let first = read_frame(bytes, frame, channels, samples);
-    if first == DONE {
-        let next = chain.step(figures, frame, channels, samples);
-        if next.reply == DONE {
-            let after = next.chain;
-            let written = write_frame(frame, channels, samples, bytes);
-            Levelled {
-                reply: written,
-                chain: after,
-            }
-        } else {
-            Levelled {
-                reply: next.reply,
-                chain,
-            }
-        }
-    } else {
-        Levelled {
-            reply: first,
-            chain,
-        }
-    }
+    read_frame(bytes, frame, channels, samples)?;
+    let next = chain.step(figures, frame, channels, samples)?;
+    write_frame(frame, channels, samples, bytes)?;
+    Ok(next.chain)
 }
 
-// Levels the bytes of a frame of few samples, n.
-fn level_few(
+// Levels the bytes of a frame of n samples, with room for N.
+fn level_within<const N: usize>(
     chain: Chain,
     figures: Figures,
     bytes: &mut [u8],
     n: usize,
     channels: usize,
     samples: usize,
-) -> Levelled
-    requires n_bound { n ≤ 480 }
+) -> Result<Chain, Refusal>
+    requires room_bound { N ≤ 3840 }
+    requires n_bound { n ≤ N }
     requires n_value { n ≡ room_for channels samples }
-    ensures value { result ≡ (levelled chain figures bytes.old channels samples).next }
+    ensures value { result ≡ handed (levelled chain figures bytes.old channels samples).next.reply (levelled chain figures bytes.old channels samples).next.chain }
     ensures bytes_after { bytes.new ≡ (levelled chain figures bytes.old channels samples).bytes }
 {
-    let mut frame = quiet_channel();
+    let mut frame = [0.0; N];
     level_in(chain, figures, bytes, &mut frame[..n], channels, samples)
 }
 
-// Levels the bytes of a frame of any number of samples, n.
-fn level_many(
-    chain: Chain,
-    figures: Figures,
-    bytes: &mut [u8],
-    n: usize,
-    channels: usize,
-    samples: usize,
-) -> Levelled
-    requires n_bound { n ≤ 3840 }
-    requires n_value { n ≡ room_for channels samples }
-    ensures value { result ≡ (levelled chain figures bytes.old channels samples).next }
-    ensures bytes_after { bytes.new ≡ (levelled chain figures bytes.old channels samples).bytes }
-{
-    let mut frame = quiet();
-    level_in(chain, figures, bytes, &mut frame[..n], channels, samples)
-}
-
-// Levels the bytes of a frame where they stand, with the figures that were metered of it. Refused with 1 where they are
-// not two for each sample of a frame of this shape, and with what the chain refuses; the bytes and the chain stay as they
-// were then.
+// Levels the bytes of a frame where they stand, with the figures that were metered of it, and answers the chain that goes
+// on. Refused for their shape are bytes that are not two for each sample of a frame of this shape, and then what the chain
+// refuses; the bytes stay as they were then. A frame of one channel takes less room, which is cleared sooner.
 pub fn level_bytes(
     chain: Chain,
     figures: Figures,
     bytes: &mut [u8],
     channels: usize,
     samples: usize,
-) -> Levelled
-    ensures value { result ≡ (levelled chain figures bytes.old channels samples).next }
+) -> Result<Chain, Refusal>
+    ensures value { result ≡ handed (levelled chain figures bytes.old channels samples).next.reply (levelled chain figures bytes.old channels samples).next.chain }
     ensures bytes_after { bytes.new ≡ (levelled chain figures bytes.old channels samples).bytes }
 {
     let n = room_for(channels, samples);
     if n <= CHANNEL_SAMPLES {
-        level_few(chain, figures, bytes, n, channels, samples)
+        level_within::<CHANNEL_SAMPLES>(chain, figures, bytes, n, channels, samples)
     } else {
-        level_many(chain, figures, bytes, n, channels, samples)
+        level_within::<MOST_SAMPLES>(chain, figures, bytes, n, channels, samples)
     }
 }

@@ -1,5 +1,5 @@
 -- A run over the frames of a recording. Definitions only.
-use Rattle.std.specs.Prelude.{ℕ, ◌+◌, ◌-◌, ◌*◌, ◌/◌, ◌%◌, ◌^◌, Bool, true, false, cond, not, ◌&&◌, ◌||◌, List, [], ◌∷◌, ◌++◌, take, drop, ◌==◌, nat_le, nat_lt}
+use Rattle.std.specs.Prelude.{ℕ, ◌+◌, ◌-◌, ◌*◌, ◌/◌, ◌%◌, ◌^◌, Bool, true, false, cond, not, ◌&&◌, ◌||◌, List, [], ◌∷◌, ◌++◌, take, drop, ◌==◌, nat_le, nat_lt, Option, Some, None}
 use Rattle.units.specs.Replies.{done, bad_shape}
 use Rattle.units.specs.declared.figures.Figures.{Figures}
 use Rattle.chain.specs.Calls.{made, gap}
@@ -10,10 +10,10 @@ use Rattle.strip_reader.specs.declared.Got.TheVariants as Came
 use Rattle.wav_format.specs.Head.{head_length, put_head}
 use Rattle.recording_frame.specs.Levelling.{levelled}
 use Rattle.recording_run.specs.declared.levelling.Told.{Told}
-use Rattle.recording_run.specs.declared.levelling.Told.TheVariants.{Nothing, Minute, StripEnds, Refused, Missing, SaysNone, StripGoesOn}
+use Rattle.recording_run.specs.declared.levelling.Told.TheVariants.{Minute, StripEnds, Refused, Missing, SaysNone, StripGoesOn}
 use Rattle.recording_run.specs.declared.levelling.Run.{Run}
 use Rattle.recording_run.specs.declared.levelling.Extent.{Extent}
-use Rattle.recording_run.specs.declared.levelling.Begun.{Begun}
+use Rattle.recording_run.specs.declared.levelling.Begun as Declared
 use Rattle.recording_run.specs.declared.levelling.Turn.{Turn}
 
 -- ---- how many bytes
@@ -36,6 +36,16 @@ unfoldable pub frame_bytes : ℕ → ℕ → ℕ
 frame_bytes channels samples = cond (nat_le channels 8 && nat_le samples 480) (2 * (channels * samples)) 0
 
 -- ---- the start: the head of the levelled file, a new chain, no frame, and the record of number 1
+-- a reply's number, how many bytes the head has, and the run before its first frame
+pub record Begun : Type 0 where
+  pub reply : ℕ
+  pub head : ℕ
+  pub run : Run
+
+-- the same without the reply
+abbrev pub opened : Begun → Declared.Begun
+opened b = record { head = b.head; run = b.run }
+
 pub record Beginning : Type 0 where
   pub begun : Begun
   pub out : List ℕ
@@ -76,11 +86,11 @@ pub record Framed : Type 0 where
   pub bytes : List ℕ
 
 -- 6000 frames are a minute
-unfoldable pub minute : ℕ → Told
-minute frames = cond (frames % 6000 == 0) (Minute (frames / 6000)) Nothing
+unfoldable pub minute : ℕ → Option Told
+minute frames = cond (frames % 6000 == 0) (Some (Minute (frames / 6000))) None
 
 -- the run ends, and nothing is written; the strip was refused with this reply, or with 0 was not
-abbrev pub stopped : Run → Told → ℕ → Turn
+abbrev pub stopped : Run → Option Told → ℕ → Turn
 stopped run told refused =
     record {
       run = record { chain = run.chain; number = run.number; frames = run.frames; left = run.left; more = false; well = false; refused = refused };
@@ -102,7 +112,7 @@ framed run n figures bytes channels samples =
             n = n;
             again = false;
           })
-          (stopped run (Refused after.next.reply run.number) after.next.reply);
+          (stopped run (Some (Refused after.next.reply run.number)) after.next.reply);
       bytes = after.bytes;
     }
 
@@ -116,17 +126,17 @@ unfoldable pub gapped : Run → Turn
 gapped run =
     let after = gap run.chain in
     cond (after.reply == done)
-    (record { run = after_gap run after.chain; told = Nothing; n = 0; again = true })
-    (stopped run (Refused after.reply run.number) after.reply)
+    (record { run = after_gap run after.chain; told = None; n = 0; again = true })
+    (stopped run (Some (Refused after.reply run.number)) after.reply)
 
 -- with what came out of the strip for it: figures, or a gap before them; without these the run ends
 unfoldable pub entered : Got → Run → ℕ → List ℕ → ℕ → ℕ → Framed
-entered Came.More run n bytes channels samples = record { turn = stopped run Nothing 0; bytes = bytes }
-entered (Came.Head head) run n bytes channels samples = record { turn = stopped run Nothing 0; bytes = bytes }
+entered Came.More run n bytes channels samples = record { turn = stopped run None 0; bytes = bytes }
+entered (Came.Head head) run n bytes channels samples = record { turn = stopped run None 0; bytes = bytes }
 entered (Came.Record figures) run n bytes channels samples = framed run n figures bytes channels samples
 entered Came.Gap run n bytes channels samples = record { turn = gapped run; bytes = bytes }
-entered Came.End run n bytes channels samples = record { turn = stopped run (StripEnds run.number) 0; bytes = bytes }
-entered (Came.Refused reply) run n bytes channels samples = record { turn = stopped run (Refused reply run.number) reply; bytes = bytes }
+entered Came.End run n bytes channels samples = record { turn = stopped run (Some (StripEnds run.number)) 0; bytes = bytes }
+entered (Came.Refused reply) run n bytes channels samples = record { turn = stopped run (Some (Refused reply run.number)) reply; bytes = bytes }
 
 -- ---- it is written, or could not be
 abbrev pub after_write : Run → Bool → Run
@@ -147,17 +157,17 @@ abbrev pub behind_bytes : ℕ → ℕ
 behind_bytes size = cond (size == 0) 1 0
 
 -- what is told of samples of which so many bytes did not come, where so many come behind them, and otherwise
-unfoldable pub of_samples : ℕ → ℕ → ℕ → ℕ → Told → Told
+unfoldable pub of_samples : ℕ → ℕ → ℕ → ℕ → Option Told → Option Told
 of_samples size channels left behind other =
-    cond ((extent_of size channels).known && nat_lt 0 left) (Missing left) (cond (size == 0 && nat_lt 0 behind) SaysNone other)
+    cond ((extent_of size channels).known && nat_lt 0 left) (Some (Missing left)) (cond (size == 0 && nat_lt 0 behind) (Some SaysNone) other)
 
 -- what is told of a strip that goes on, or does not, with the record of this number
-unfoldable pub of_rest : Bool → ℕ → Told
-of_rest goes number = cond goes (StripGoesOn number) Nothing
+unfoldable pub of_rest : Bool → ℕ → Option Told
+of_rest goes number = cond goes (Some (StripGoesOn number)) None
 
 -- what is told of a run that went well: first of the samples, then of the strip
-unfoldable pub at_end : Run → ℕ → ℕ → ℕ → Bool → Told
-at_end run size channels behind goes = cond run.well (of_samples size channels run.left behind (of_rest goes run.number)) Nothing
+unfoldable pub at_end : Run → ℕ → ℕ → ℕ → Bool → Option Told
+at_end run size channels behind goes = cond run.well (of_samples size channels run.left behind (of_rest goes run.number)) None
 
 -- how many bytes of samples were written
 abbrev pub written_bytes : Run → ℕ → ℕ → ℕ

@@ -1,10 +1,9 @@
 -- A metering of the samples of a recording. Definitions only.
-use Rattle.std.specs.Prelude.{ℕ, ◌-◌, Bool, cond, not, ◌&&◌, List, nat_eq, nat_lt}
+use Rattle.std.specs.Prelude.{ℕ, ◌-◌, Bool, cond, not, ◌&&◌, List, nat_eq, nat_lt, Option, None}
 use Rattle.units.specs.Replies.{done}
 use Rattle.loudness.specs.Metering.{put_format, put_loudness}
 use Rattle.recording_run.specs.Levelling.{extent_of, of_samples}
 use Rattle.recording_run.specs.declared.levelling.Told.{Told}
-use Rattle.recording_run.specs.declared.levelling.Told.TheVariants.{Nothing}
 use Rattle.recording_run.specs.declared.metering.Meter.{Meter}
 use Rattle.recording_run.specs.declared.metering.Metered.{Metered}
 
@@ -42,5 +41,5 @@ abbrev pub meter_written : Meter → Bool → Meter
 meter_written meter written = record { left = meter.left; more = meter.more && written; well = meter.well && written }
 
 -- ---- the end: what is told of a metering that went well
-unfoldable pub meter_at_end : Meter → ℕ → ℕ → ℕ → Told
-meter_at_end meter size channels behind = cond meter.well (of_samples size channels meter.left behind Nothing) Nothing
+unfoldable pub meter_at_end : Meter → ℕ → ℕ → ℕ → Option Told
+meter_at_end meter size channels behind = cond meter.well (of_samples size channels meter.left behind None) None

@@ -1,16 +1,21 @@
 -- The search for the samples of a WAV file. Definitions only.
 use Rattle.std.specs.Prelude.{ℕ, ◌+◌, ◌-◌, ◌/◌, ◌%◌, min, Bool, true, false, cond, ◌&&◌, List, length, ◌==◌, nat_le, nat_lt}
 use Rattle.units.specs.Replies.{done, cut, bad_length, bad_version}
-use Rattle.wav_format.specs.Head.{samples_name, format_name, is_wave, chunk_of, format_of}
+use Rattle.wav_format.specs.Head.{samples_name, format_name, is_wave, chunk_of, format_of, said}
+use Rattle.wav_format.specs.declared.head.Format as Declared
 use Rattle.recording_run.specs.declared.wave.Fault.{Fault}
 use Rattle.recording_run.specs.declared.wave.Fault.TheVariants.{Unread, NoWave, Ends, NoFormat, FormatCut, NotPlain, NotTogether, Channels, Rate}
 use Rattle.recording_run.specs.declared.wave.Stage.{Stage}
 use Rattle.recording_run.specs.declared.wave.Stage.TheVariants.{Start, Chunk, Format, Skip, Samples, Over}
 use Rattle.recording_run.specs.declared.wave.Search.{Search}
 
+-- no format has come
+abbrev pub unknown : Declared.Format
+unknown = record { channels = 0; samples = 0; mask = 0 }
+
 -- from the start of a file
 abbrev pub first : Search
-first = record { stage = Start; channels = 0; samples = 0; mask = 0 }
+first = record { stage = Start; format = unknown }
 
 -- a chunk of odd size has one byte of padding
 abbrev pub padded : ℕ → ℕ
@@ -60,8 +65,8 @@ unfoldable pub after_format : ℕ → List ℕ → Search
 after_format size bytes =
     let format = format_of bytes in
     cond (format.reply == done)
-    (record { stage = Skip (padded size - length bytes); channels = format.channels; samples = format.samples; mask = format.mask })
-    (record { stage = Over (fault_of format.reply bytes); channels = 0; samples = 0; mask = 0 })
+    (record { stage = Skip (padded size - length bytes); format = said format })
+    (record { stage = Over (fault_of format.reply bytes); format = unknown })
 
 -- where none came, none was left or the input has ended, and in both cases the head of the next chunk is due
 unfoldable pub after_skip : ℕ → ℕ → Stage
@@ -69,11 +74,11 @@ after_skip left came = cond (nat_lt 0 came) (Skip (left - came)) Chunk
 
 -- the next stage with what is known of the format
 abbrev pub stays : Search → Stage → Search
-stays search stage = record { stage = stage; channels = search.channels; samples = search.samples; mask = search.mask }
+stays search stage = record { stage = stage; format = search.format }
 
 unfoldable pub took_at : Stage → Search → List ℕ → Search
 took_at Start search bytes = stays search (after_start bytes)
-took_at Chunk search bytes = stays search (after_head search.channels bytes)
+took_at Chunk search bytes = stays search (after_head search.format.channels bytes)
 took_at (Format size) search bytes = after_format size bytes
 took_at (Skip left) search bytes = stays search (after_skip left (length bytes))
 took_at (Samples size) search bytes = search

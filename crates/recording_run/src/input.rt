@@ -1,28 +1,15 @@
 // A buffer that is filled by reads.
 
-ghost use Rattle.std.specs.Prelude.{◌≡◌, ◌+◌, ◌-◌, ◌≤◌, min};
+ghost use Rattle.std.specs.Prelude.{◌≡◌};
 ghost use Rattle.recording_run.specs.Input.{empty_buffer, after_read};
 
-// How many bytes of a buffer are filled, whether there may be more to read, and whether a read failed.
+// How many bytes of a buffer are filled, whether there may be more to read, and whether a read failed. The two flags are no
+// enum: `after_read` says each by itself, and both can be set.
 #[derive(Clone, Copy)]
 pub struct Filled {
     pub n: usize,
     pub more: bool,
     pub failed: bool,
-}
-
-// The smaller of two numbers.
-pub fn least(a: usize, b: usize) -> usize
-    ensures { result ≡ min a b }
-{
-    if a < b { a } else { b }
-}
-
-// What is left of a number where another is taken from it: 0 where that is larger.
-pub fn less(a: usize, b: usize) -> usize
-    ensures { result ≡ a - b }
-{
-    if b <= a { a - b } else { 0 }
 }
 
 // A buffer of so many bytes, none of which is filled.
@@ -41,7 +28,7 @@ pub fn empty(most: usize) -> Filled
 pub fn after_read(n: usize, came: usize, failed: bool, most: usize) -> Filled
     ensures { result ≡ after_read n came failed most }
 {
-    let now = n + least(came, less(most, n));
+    let now = n + came.min(most.saturating_sub(n));
     Filled {
         n: now,
         more: (0 < came) & (now < most),

@@ -1,17 +1,17 @@
 // A run over the frames of a recording: how many bytes are due, what becomes of a frame, and what is told.
 
-ghost use Rattle.std.specs.Prelude.{◌≡◌, ◌≤◌};
-ghost use Rattle.recording_run.specs.Levelling.{whole_groups, is_unknown, extent_of, frame_bytes, begun, silenced, heard, minute, stopped, framed, after_gap, gapped, entered, after_write, behind_bytes, of_samples, of_rest, at_end, righted};
+ghost use Rattle.std.specs.Prelude.{◌≡◌, ◌≤◌, Some};
+ghost use Rattle.recording_run.specs.declared.levelling.Told.TheVariants.{Refused};
+ghost use Rattle.units.specs.Handed.{handed};
+ghost use Rattle.recording_run.specs.Levelling.{whole_groups, is_unknown, extent_of, frame_bytes, begun, opened, silenced, heard, minute, stopped, framed, after_gap, gapped, entered, after_write, behind_bytes, of_samples, of_rest, at_end, righted};
 
-use crate::input::less;
 use chain::Chain;
 use recording_frame::level_bytes;
-use std::num::wrapping_add_u64;
 use strip_format::Head;
 use strip_reader::Got;
 use units::figures::Figures;
-use units::replies::{DONE, SHAPE};
-use wav_format::head::{head_bytes, write_head};
+use units::refusals::Refusal;
+use wav_format::head::{Format, head_bytes, write_head};
 
 // What a program writes that does not know the size of its samples, since it writes to a pipe: ffmpeg the first, and sox as
 // many bytes of the second as are whole groups of samples. They end where the input ends then.
@@ -27,13 +27,12 @@ const SIZED_BYTES: usize = 8;
 // So many frames are a minute.
 const MINUTE: u64 = 6000;
 
-// What is told of a run: nothing; that so many minutes are levelled; that the strip ends before the recording, and has no
+// What is told of a run: that so many minutes are levelled; that the strip ends before the recording, and has no
 // record of this number; that a record is refused with this reply, and its number; that so many bytes of the samples are
 // missing; that the file says that it has no samples, and goes on behind them; or that the strip goes on with the record of
-// this number after the recording.
+// this number after the recording. The reply of a record is a number, and no Refusal: a run takes any number.
 #[derive(Clone, Copy)]
 pub enum Told {
-    Nothing,
     Minute(u64),
     StripEnds(u64),
     Refused(u32, u64),
@@ -44,7 +43,7 @@ pub enum Told {
 
 // How far a run is: the chain, the number of the next record, which may be a gap, how many frames are levelled, how many
 // bytes of samples are still to come, whether it goes on, whether all went well so far, and the reply with which the strip
-// was refused, which is 0 where it was not.
+// was refused, which is 0 where it was not: a number, and no Refusal, since `after_write` and `of_run` take any number.
 #[derive(Clone, Copy)]
 pub struct Run {
     pub chain: Chain,
@@ -64,10 +63,9 @@ pub struct Extent {
     pub left: usize,
 }
 
-// A reply's number, how many bytes the head of the levelled file has, and the run before its first frame.
+// How many bytes the head of the levelled file has, and the run before its first frame.
 #[derive(Clone, Copy)]
 pub struct Begun {
-    pub reply: u32,
     pub head: usize,
     pub run: Run,
 }
@@ -77,24 +75,20 @@ pub struct Begun {
 #[derive(Clone, Copy)]
 pub struct Turn {
     pub run: Run,
-    pub told: Told,
+    pub told: Option<Told>,
     pub n: usize,
     pub again: bool,
 }
 
 // So many bytes, without those of a group of samples that is not whole. Of more than 8 channels, and of none, it is 0.
+#[tactic(auto, unfolding(crate::specs::Levelling::whole_groups))]
 fn whole_groups(n: usize, channels: usize) -> usize
     ensures value { result ≡ whole_groups n channels }
     ensures upper_bound { result ≤ n }
 {
-    if 1 <= channels {
-        if channels <= 8 {
-            n - n % (2 * channels)
-        } else {
-            0
-        }
-    } else {
-        0
+    match channels {
+        1..=8 => n - n % (2 * channels),
+        _ => 0,
     }
 }
 
@@ -123,78 +117,55 @@ pub fn frame_bytes(channels: usize, samples: usize) -> usize
     ensures value { result ≡ frame_bytes channels samples }
     ensures upper_bound { result ≤ 7680 }
 {
-    if channels <= 8 {
-        if samples <= 480 {
-            2 * (channels * samples)
-        } else {
-            0
-        }
+    if channels <= 8 && samples <= 480 {
+        2 * (channels * samples)
     } else {
         0
     }
 }
 
-// Begins a run with the head of a strip, the number of peaks that the protector remembers, and samples of this format and
-// mask, whose chunk says this size: the head of the levelled file in the first bytes of a lent buffer, and a new chain.
-// Refused with 1 where the strip is for another number of samples, with 4 where the capacity is not from 1 to 16, and with
-// what the head is refused with; nothing is written then.
+// Begins a run with the head of a strip, the number of peaks that the protector remembers, and samples of this format,
+// whose chunk says this size: the head of the levelled file in the first bytes of a lent buffer, and a new chain.
+// Refused is a strip that is for another number of samples, for its shape, then what the chain refuses, which is a capacity
+// that is not from 1 to 16, and then what the head is refused with; nothing is written then.
 pub fn begin(
     head: Head,
     capacity: u32,
-    channels: usize,
-    samples: usize,
-    mask: u32,
+    format: Format,
     size: u32,
     out: &mut [u8],
-) -> Begun
-    ensures value { result ≡ (begun head capacity channels samples mask size out.old).begun }
-    ensures out_after { out.new ≡ (begun head capacity channels samples mask size out.old).out }
+) -> Result<Begun, Refusal>
+    ensures value { result ≡ handed (begun head capacity format.channels format.samples format.mask size out.old).begun.reply (opened (begun head capacity format.channels format.samples format.mask size out.old).begun) }
+    ensures out_after { out.new ≡ (begun head capacity format.channels format.samples format.mask size out.old).out }
 {
-    let settings = head.settings;
-    let made = Chain::new(settings, head.threshold, head.samples, capacity);
-    let chain = made.chain;
-    let extent = extent_of(size, channels);
-    let long = head_bytes(mask);
-    let run = Run {
-        chain,
-        number: 1,
-        frames: 0,
-        left: extent.left,
-        more: true,
-        well: true,
-        refused: 0,
-    };
-    if samples == head.samples {
-        if made.reply == DONE {
-            Begun {
-                reply: write_head(channels, samples, mask, extent.size, out),
-                head: long,
-                run,
-            }
-        } else {
-            Begun {
-                reply: made.reply,
-                head: long,
-                run,
-            }
-        }
-    } else {
-        Begun {
-            reply: SHAPE,
-            head: long,
-            run,
-        }
+    if format.samples != head.samples {
+        return Err(Refusal::Shape);
     }
+    let settings = head.settings;
+    let chain = Chain::new(settings, head.threshold, head.samples, capacity)?;
+    let extent = extent_of(size, format.channels);
+    let long = head_bytes(format.mask);
+    write_head(format, extent.size, out)?;
+    Ok(Begun {
+        head: long,
+        run: Run {
+            chain,
+            number: 1,
+            frames: 0,
+            left: extent.left,
+            more: true,
+            well: true,
+            refused: 0,
+        },
+    })
 }
 
 // Stores 0 in the bytes from a place on.
 fn silence(bytes: &mut [u8], from: usize)
     ensures { bytes.new ≡ silenced from bytes.old }
 {
-    let mut i = from;
-    while i < bytes.len() {
+    for i in from..bytes.len() {
         bytes[i] = 0;
-        i += 1;
     }
 }
 
@@ -213,48 +184,46 @@ pub fn hear(bytes: &mut [u8], came: usize, channels: usize) -> usize
 pub fn heard_run(run: Run, n: usize, failed: bool) -> Run
     ensures { result ≡ heard run n failed }
 {
-    let chain = run.chain;
     Run {
-        chain,
-        number: run.number,
-        frames: run.frames,
-        left: run.left,
         more: (0 < n) & !failed,
         well: !failed,
-        refused: run.refused,
+        ..run
     }
 }
 
 // What is told once so many frames are levelled: each minute.
-fn told_minute(frames: u64) -> Told
+fn told_minute(frames: u64) -> Option<Told>
     ensures { result ≡ minute frames }
 {
     if frames % MINUTE == 0 {
-        Told::Minute(frames / MINUTE)
+        Some(Told::Minute(frames / MINUTE))
     } else {
-        Told::Nothing
+        None
     }
 }
 
 // A run that ends before its next frame, which is not written: the strip was refused with this reply, or with 0 was not.
-fn stop(run: Run, told: Told, refused: u32) -> Turn
+fn stop(run: Run, told: Option<Told>, refused: u32) -> Turn
     ensures { result ≡ stopped run told refused }
 {
-    let chain = run.chain;
     Turn {
         run: Run {
-            chain,
-            number: run.number,
-            frames: run.frames,
-            left: run.left,
             more: false,
             well: false,
             refused,
+            ..run
         },
         told,
         n: 0,
         again: false,
     }
+}
+
+// A run that ends at a record or a gap that is refused with this reply: it is told, and kept to the end.
+fn refuse(run: Run, reply: u32) -> Turn
+    ensures { result ≡ stopped run (Some (Refused reply run.number)) reply }
+{
+    stop(run, Some(Told::Refused(reply, run.number)), reply)
 }
 
 // Levels a frame of which so many bytes were heard, with its figures.
@@ -269,27 +238,25 @@ fn take_figures(
     ensures value { result ≡ (framed run n figures bytes.old channels samples).turn }
     ensures bytes_after { bytes.new ≡ (framed run n figures bytes.old channels samples).bytes }
 {
-    let before = run.chain;
-    let next = level_bytes(before, figures, bytes, channels, samples);
-    if next.reply == DONE {
-        let chain = next.chain;
-        let frames = wrapping_add_u64(run.frames, 1);
-        Turn {
-            run: Run {
-                chain,
-                number: wrapping_add_u64(run.number, 1),
-                frames,
-                left: less(run.left, n),
-                more: true,
-                well: true,
-                refused: 0,
-            },
-            told: told_minute(frames),
-            n,
-            again: false,
+    match level_bytes(run.chain, figures, bytes, channels, samples) {
+        Ok(chain) => {
+            let frames = run.frames.wrapping_add(1);
+            Turn {
+                run: Run {
+                    chain,
+                    number: run.number.wrapping_add(1),
+                    frames,
+                    left: run.left.saturating_sub(n),
+                    more: true,
+                    well: true,
+                    refused: 0,
+                },
+                told: told_minute(frames),
+                n,
+                again: false,
+            }
         }
-    } else {
-        stop(run, Told::Refused(next.reply, run.number), next.reply)
+        Err(refused) => refuse(run, refused.number()),
     }
 }
 
@@ -297,16 +264,11 @@ fn take_figures(
 pub(crate) fn after_gap(run: Run, chain: Chain) -> Run
     ensures { result ≡ after_gap run chain }
 {
-    let next = wrapping_add_u64(run.number, 1);
-    let frames = run.frames;
+    let next = run.number.wrapping_add(1);
     Run {
         chain,
         number: next,
-        frames,
-        left: run.left,
-        more: run.more,
-        well: run.well,
-        refused: run.refused,
+        ..run
     }
 }
 
@@ -315,18 +277,14 @@ pub(crate) fn after_gap(run: Run, chain: Chain) -> Run
 fn take_gap(run: Run) -> Turn
     ensures { result ≡ gapped run }
 {
-    let before = run.chain;
-    let gapped = before.gap();
-    if gapped.reply == DONE {
-        let chain = gapped.chain;
-        Turn {
+    match run.chain.gap() {
+        Ok(chain) => Turn {
             run: after_gap(run, chain),
-            told: Told::Nothing,
+            told: None,
             n: 0,
             again: true,
-        }
-    } else {
-        stop(run, Told::Refused(gapped.reply, run.number), gapped.reply)
+        },
+        Err(no_gap) => refuse(run, no_gap.number()),
     }
 }
 
@@ -346,12 +304,12 @@ pub fn take_entry(
     ensures bytes_after { bytes.new ≡ (entered got run n bytes.old channels samples).bytes }
 {
     match got {
-        Got::More => stop(run, Told::Nothing, 0),
-        Got::Head(_) => stop(run, Told::Nothing, 0),
+        Got::More => stop(run, None, 0),
+        Got::Head(_) => stop(run, None, 0),
         Got::Record(figures) => take_figures(run, n, figures, bytes, channels, samples),
         Got::Gap => take_gap(run),
-        Got::End => stop(run, Told::StripEnds(run.number), 0),
-        Got::Refused(reply) => stop(run, Told::Refused(reply, run.number), reply),
+        Got::End => stop(run, Some(Told::StripEnds(run.number)), 0),
+        Got::Refused(reply) => refuse(run, reply),
     }
 }
 
@@ -359,16 +317,10 @@ pub fn take_entry(
 pub fn after_write(run: Run, written: bool) -> Run
     ensures { result ≡ after_write run written }
 {
-    let chain = run.chain;
-    let refused = run.refused;
     Run {
-        chain,
-        number: run.number,
-        frames: run.frames,
-        left: run.left,
         more: run.more & written,
         well: run.well & written,
-        refused,
+        ..run
     }
 }
 
@@ -387,35 +339,31 @@ pub(crate) fn told_of_samples(
     channels: usize,
     left: usize,
     behind: usize,
-    other: Told,
-) -> Told
+    other: Option<Told>,
+) -> Option<Told>
     ensures { result ≡ of_samples size channels left behind other }
 {
     let extent = extent_of(size, channels);
     if extent.known & (0 < left) {
-        Told::Missing(left)
+        Some(Told::Missing(left))
     } else if (size == 0) & (0 < behind) {
-        Told::SaysNone
+        Some(Told::SaysNone)
     } else {
         other
     }
 }
 
 // What is told of a strip that goes on, or does not, with the record of this number.
-fn told_of_rest(goes: bool, number: u64) -> Told
+fn told_of_rest(goes: bool, number: u64) -> Option<Told>
     ensures { result ≡ of_rest goes number }
 {
-    if goes {
-        Told::StripGoesOn(number)
-    } else {
-        Told::Nothing
-    }
+    goes.then_some(Told::StripGoesOn(number))
 }
 
 // What is told at the end of a run over samples whose chunk says this size, where so many bytes come behind them, of those
 // that were looked for, and the strip goes on or does not: first of the samples, then that the strip goes on. Of a run that
 // did not go well all is told.
-pub fn told_at_end(run: Run, size: u32, channels: usize, behind: usize, goes: bool) -> Told
+pub fn told_at_end(run: Run, size: u32, channels: usize, behind: usize, goes: bool) -> Option<Told>
     ensures { result ≡ at_end run size channels behind goes }
 {
     if run.well {
@@ -427,32 +375,25 @@ pub fn told_at_end(run: Run, size: u32, channels: usize, behind: usize, goes: bo
             told_of_rest(goes, run.number),
         )
     } else {
-        Told::Nothing
+        None
     }
 }
 
 // The head with the size that is true at the end of a run over samples whose chunk says this size, in the first bytes of a
 // lent buffer, and how many bytes of it are to be written: none, where the run did not go well, where the head that was
 // written is true, and where four bytes do not say how many bytes follow the first eight. The buffer stays as it was then.
-pub fn put_right(
-    run: Run,
-    channels: usize,
-    samples: usize,
-    mask: u32,
-    size: u32,
-    out: &mut [u8],
-) -> usize
-    ensures value { result ≡ (righted run channels samples mask size out.old).n }
-    ensures out_after { out.new ≡ (righted run channels samples mask size out.old).out }
+pub fn put_right(run: Run, format: Format, size: u32, out: &mut [u8]) -> usize
+    ensures value { result ≡ (righted run format.channels format.samples format.mask size out.old).n }
+    ensures out_after { out.new ≡ (righted run format.channels format.samples format.mask size out.old).out }
 {
-    let length = head_bytes(mask);
-    let most = less(MOST, less(length, SIZED_BYTES));
-    let extent = extent_of(size, channels);
-    let written = less(extent.left, run.left);
+    let length = head_bytes(format.mask);
+    let most = MOST.saturating_sub(length.saturating_sub(SIZED_BYTES));
+    let extent = extent_of(size, format.channels);
+    let written = extent.left.saturating_sub(run.left);
     if written <= most {
         if run.well & !(written == extent.size as usize) {
-            let reply = write_head(channels, samples, mask, written as u32, out);
-            floats::pick(reply == DONE, length, 0)
+            let done = write_head(format, written as u32, out).is_ok();
+            floats::pick(done, length, 0)
         } else {
             0
         }

@@ -4,10 +4,8 @@
 ghost use Rattle.std.specs.Prelude.{◌≡◌};
 ghost use Rattle.recording_run.specs.Metering.{started, meter_heard, metered, meter_written, meter_at_end};
 
-use crate::input::less;
 use crate::levelling::{Told, extent_of, told_of_samples};
 use loudness::{FORMAT_BYTES, RECORD_BYTES, put_format, put_loudness};
-use units::replies::DONE;
 
 // How far a metering is: how many bytes of samples are still to come, whether it goes on, and whether all went well so far.
 #[derive(Clone, Copy)]
@@ -31,7 +29,7 @@ pub fn begin(channels: usize, samples: usize, size: u32, out: &mut [u8]) -> Mete
     ensures out_after { out.new ≡ (started channels samples size out.old).out }
 {
     let extent = extent_of(size, channels);
-    let done = put_format(channels, samples, size, out) == DONE;
+    let done = put_format(channels, samples, size, out).is_ok();
     Metered {
         meter: Meter {
             left: extent.left,
@@ -47,9 +45,9 @@ pub fn heard_meter(meter: Meter, n: usize, failed: bool) -> Meter
     ensures { result ≡ meter_heard meter n failed }
 {
     Meter {
-        left: meter.left,
         more: (0 < n) & !failed,
         well: !failed,
+        ..meter
     }
 }
 
@@ -66,10 +64,10 @@ pub fn meter_sound(
     ensures value { result ≡ (metered meter n bytes.now channels samples out.old).turn }
     ensures out_after { out.new ≡ (metered meter n bytes.now channels samples out.old).out }
 {
-    let done = put_loudness(bytes, channels, samples, out) == DONE;
+    let done = put_loudness(bytes, channels, samples, out).is_ok();
     Metered {
         meter: Meter {
-            left: floats::pick(done, less(meter.left, n), meter.left),
+            left: floats::pick(done, meter.left.saturating_sub(n), meter.left),
             more: done,
             well: done,
         },
@@ -82,20 +80,20 @@ pub fn after_write(meter: Meter, written: bool) -> Meter
     ensures { result ≡ meter_written meter written }
 {
     Meter {
-        left: meter.left,
         more: meter.more & written,
         well: meter.well & written,
+        ..meter
     }
 }
 
 // What is told at the end of a metering of samples whose chunk says this size, where so many bytes come behind them, of those
 // that were looked for. Of one that did not go well all is told.
-pub fn told_at_end(meter: Meter, size: u32, channels: usize, behind: usize) -> Told
+pub fn told_at_end(meter: Meter, size: u32, channels: usize, behind: usize) -> Option<Told>
     ensures { result ≡ meter_at_end meter size channels behind }
 {
     if meter.well {
-        told_of_samples(size, channels, meter.left, behind, Told::Nothing)
+        told_of_samples(size, channels, meter.left, behind, None)
     } else {
-        Told::Nothing
+        None
     }
 }

@@ -39,8 +39,7 @@ pub fn take_rest(run: Run, got: Got) -> Rest
         Got::Record(_) => no_gap(run, true, false),
         Got::Gap => {
             let before = run.chain;
-            let gapped = before.gap();
-            let chain = gapped.chain;
+            let chain = before.gap().unwrap_or(before);
             Rest {
                 run: after_gap(run, chain),
                 goes: false,

@@ -38,7 +38,7 @@ fn filled_of(n: usize, block: &[u8]) -> usize
     ensures upper_bound { (result ≤ length block.now) × (result ≡ length (take result block.now)) }
     ensures block_value { take result block.now ≡ take n block.now }
 {
-    if n < block.len() { n } else { block.len() }
+    n.min(block.len())
 }
 
 // Takes the bytes of a block from the place on, until something comes out or they are used up; then a block is to be read.
@@ -49,13 +49,12 @@ pub fn draw(source: Source, block: &[u8]) -> Drawn
     let at = source.at;
     let reader = source.reader;
     let next = reader.next(&block[..m], at);
-    let after = next.reader;
     let got = next.got;
     Drawn {
         source: Source {
-            reader: after,
+            reader: next.reader,
             at: at + next.used,
-            n: source.n,
+            ..source
         },
         got,
         more: is_more(got),
@@ -67,7 +66,6 @@ pub fn draw(source: Source, block: &[u8]) -> Drawn
 pub fn refill(source: Source, block: &[u8], came: usize, failed: bool) -> Drawn
     ensures { drawn_of result ≡ refilled source block.now came failed }
 {
-    let reader = source.reader;
     if failed {
         Drawn {
             source,
@@ -76,13 +74,13 @@ pub fn refill(source: Source, block: &[u8], came: usize, failed: bool) -> Drawn
         }
     } else if 0 < came {
         let next = Source {
-            reader,
             at: 0,
             n: came,
+            ..source
         };
         draw(next, block)
     } else {
-        let got = reader.finish();
+        let got = source.reader.finish();
         Drawn {
             source,
             got,

@@ -1,12 +1,12 @@
 // The search for the samples of a WAV file: which bytes are asked for next, and what follows of those that came.
 
 ghost use Rattle.std.specs.Prelude.{◌≡◌, ◌≤◌};
-ghost use Rattle.recording_run.specs.Wave.{padded, wanted, goes_on, after_start, after_name, after_head, fault_of, after_format, after_skip, took, first};
+ghost use Rattle.units.specs.Handed.{number_of};
+ghost use Rattle.recording_run.specs.Wave.{unknown, padded, wanted, goes_on, after_start, after_name, after_head, fault_of, after_format, after_skip, took, first};
 
-use crate::input::{least, less};
-use units::replies::{CUT, DONE, LENGTH, VERSION};
+use units::refusals::Refusal;
 use wav_format::head::{
-    CHUNK_BYTES, DATA, FORMAT, FORMAT_BYTES, START_BYTES, is_wave, read_chunk, read_format,
+    CHUNK_BYTES, DATA, FORMAT, FORMAT_BYTES, Format, START_BYTES, is_wave, read_chunk, read_format,
 };
 
 // So many bytes are skipped at a time, at most.
@@ -40,14 +40,23 @@ pub enum Stage {
     Over(Fault),
 }
 
-// Where the search is, and the channels, the samples of a channel in 10 ms and the mask: all 0 as long as no format has
-// come.
+// Where the search is, and the format: all 0 as long as none has come. It is no Option: `take_bytes` takes every format, and
+// looks at the channels alone.
 #[derive(Clone, Copy)]
 pub struct Search {
     pub stage: Stage,
-    pub channels: usize,
-    pub samples: usize,
-    pub mask: u32,
+    pub format: Format,
+}
+
+// The format before one has come.
+fn no_format() -> Format
+    ensures { result ≡ unknown }
+{
+    Format {
+        channels: 0,
+        samples: 0,
+        mask: 0,
+    }
 }
 
 // The search from the start of a file.
@@ -56,9 +65,7 @@ pub fn begin() -> Search
 {
     Search {
         stage: Stage::Start,
-        channels: 0,
-        samples: 0,
-        mask: 0,
+        format: no_format(),
     }
 }
 
@@ -76,10 +83,9 @@ pub fn wanted_bytes(stage: Stage) -> usize
     match stage {
         Stage::Start => START_BYTES,
         Stage::Chunk => CHUNK_BYTES,
-        Stage::Format(size) => least(size as usize, FORMAT_BYTES),
-        Stage::Skip(left) => least(left, SKIP_BYTES),
-        Stage::Samples(_) => 0,
-        Stage::Over(_) => 0,
+        Stage::Format(size) => (size as usize).min(FORMAT_BYTES),
+        Stage::Skip(left) => left.min(SKIP_BYTES),
+        Stage::Samples(_) | Stage::Over(_) => 0,
     }
 }
 
@@ -87,14 +93,7 @@ pub fn wanted_bytes(stage: Stage) -> usize
 pub fn goes_on(stage: Stage) -> bool
     ensures { result ≡ goes_on stage }
 {
-    match stage {
-        Stage::Start => true,
-        Stage::Chunk => true,
-        Stage::Format(_) => true,
-        Stage::Skip(_) => true,
-        Stage::Samples(_) => false,
-        Stage::Over(_) => false,
-    }
+    !matches!(stage, Stage::Samples(_) | Stage::Over(_))
 }
 
 // After the first bytes.
@@ -137,23 +136,24 @@ fn after_head(channels: usize, bytes: &[u8]) -> Stage
     }
 }
 
-// What is told of a format chunk that is refused with this reply. It begins with two numbers of four bytes: the first has
-// the channels in its upper half, and the second is the rate.
-fn fault_of(reply: u32, bytes: &[u8]) -> Fault
-    ensures { result ≡ fault_of reply bytes.now }
+// What is told of a format chunk that is refused. It begins with two numbers of four bytes: the first has the channels in
+// its upper half, and the second is the rate.
+fn fault_of(refused: Refusal, bytes: &[u8]) -> Fault
+    ensures { result ≡ fault_of (number_of refused) bytes.now }
 {
     let numbers = read_chunk(bytes);
     let channels = numbers.name / 65536;
-    if reply == CUT {
-        Fault::FormatCut
-    } else if reply == VERSION {
-        Fault::NotPlain
-    } else if reply == LENGTH {
-        Fault::NotTogether
-    } else if (1 <= channels) & (channels <= 8) {
-        Fault::Rate(numbers.size)
-    } else {
-        Fault::Channels(channels)
+    match refused {
+        Refusal::Cut => Fault::FormatCut,
+        Refusal::Version => Fault::NotPlain,
+        Refusal::Length => Fault::NotTogether,
+        _ => {
+            if (1 <= channels) & (channels <= 8) {
+                Fault::Rate(numbers.size)
+            } else {
+                Fault::Channels(channels)
+            }
+        }
     }
 }
 
@@ -161,21 +161,15 @@ fn fault_of(reply: u32, bytes: &[u8]) -> Fault
 fn after_format(size: u32, bytes: &[u8]) -> Search
     ensures { result ≡ after_format size bytes.now }
 {
-    let format = read_format(bytes);
-    if format.reply == DONE {
-        Search {
-            stage: Stage::Skip(less(padded_size(size), bytes.len())),
-            channels: format.channels,
-            samples: format.samples,
-            mask: format.mask,
-        }
-    } else {
-        Search {
-            stage: Stage::Over(fault_of(format.reply, bytes)),
-            channels: 0,
-            samples: 0,
-            mask: 0,
-        }
+    match read_format(bytes) {
+        Ok(said) => Search {
+            stage: Stage::Skip(padded_size(size).saturating_sub(bytes.len())),
+            format: said,
+        },
+        Err(refused) => Search {
+            stage: Stage::Over(fault_of(refused, bytes)),
+            format: no_format(),
+        },
     }
 }
 
@@ -185,7 +179,7 @@ fn after_skip(left: usize, came: usize) -> Stage
     ensures { result ≡ after_skip left came }
 {
     if 0 < came {
-        Stage::Skip(less(left, came))
+        Stage::Skip(left.saturating_sub(came))
     } else {
         Stage::Chunk
     }
@@ -196,36 +190,26 @@ pub fn take_bytes(search: Search, bytes: &[u8], failed: bool) -> Search
     ensures { result ≡ took search bytes.now failed }
 {
     let stage = search.stage;
-    let channels = search.channels;
-    let samples = search.samples;
-    let mask = search.mask;
+    let format = search.format;
     if failed {
         Search {
             stage: Stage::Over(Fault::Unread),
-            channels,
-            samples,
-            mask,
+            format,
         }
     } else {
         match stage {
             Stage::Start => Search {
                 stage: after_start(bytes),
-                channels,
-                samples,
-                mask,
+                format,
             },
             Stage::Chunk => Search {
-                stage: after_head(channels, bytes),
-                channels,
-                samples,
-                mask,
+                stage: after_head(format.channels, bytes),
+                format,
             },
             Stage::Format(size) => after_format(size, bytes),
             Stage::Skip(left) => Search {
                 stage: after_skip(left, bytes.len()),
-                channels,
-                samples,
-                mask,
+                format,
             },
             Stage::Samples(_) => search,
             Stage::Over(_) => search,

@@ -1,6 +1,6 @@
 -- A gap takes no sound of a recording: not before a frame, and not behind the last one. Laws.
 -- Assumes nothing.
-use Rattle.std.specs.Prelude.{◌≡◌, ℕ, true, false, List, ◌==◌}
+use Rattle.std.specs.Prelude.{◌≡◌, ℕ, true, false, List, None, ◌==◌}
 use Rattle.std.proofs.Math.Path.{refl}
 use Rattle.std.proofs.Common.{sym, ◌∙◌}
 use Rattle.std.proofs.lemmas.Bool.{false≢true}
@@ -15,7 +15,6 @@ use Rattle.strip_reader.specs.declared.Got.TheVariants as Came
 use Rattle.recording_frame.specs.Levelling.{levelled}
 use Rattle.recording_run.specs.Levelling.{framed, after_gap, gapped, entered}
 use Rattle.recording_run.specs.Rest.{rested}
-use Rattle.recording_run.specs.declared.levelling.Told.TheVariants.{Nothing}
 use Rattle.recording_run.specs.declared.levelling.Run.{Run}
 use Rattle.recording_run.specs.declared.levelling.Turn.{Turn}
 
@@ -43,7 +42,7 @@ module _ (run : Run) (n : ℕ) (bytes : List ℕ) (channels samples : ℕ) where
 
   -- A chain that passes takes it: it has the next number, and the frame waits for its figures.
   pub gap_waits : passes run.chain ≡ true
-      → (entered Came.Gap run n bytes channels samples).turn ≡ record { run = after_gap run (interrupted run.chain); told = Nothing; n = 0; again = true }
+      → (entered Came.Gap run n bytes channels samples).turn ≡ record { run = after_gap run (interrupted run.chain); told = None; n = 0; again = true }
   unfolding entered gapped
   gap_waits h = rw (gap_taken run.chain h)
 

@@ -1,7 +1,10 @@
 -- The head of a file: what its tests come to, and how many bytes are written. Laws.
 -- Assumes nothing.
-use Rattle.std.specs.Prelude.{◌≡◌, ℕ, ◌+◌, ◌-◌, ◌*◌, ◌/◌, ◌%◌, ◌<◌, ◌≤◌, Bool, true, false, cond, ◌&&◌, ◌||◌, leb, List, [], ◌∷◌, ◌++◌, length, take, drop, ◌==◌, nat_eq, nat_le}
-use Rattle.std.proofs.Math.Path.{refl}
+use Rattle.std.specs.Prelude.{◌≡◌, Err, IfErr, ℕ, ◌+◌, ◌-◌, ◌*◌, ◌/◌, ◌%◌, ◌<◌, ◌≤◌, Bool, true, false, cond, ◌&&◌, ◌||◌, leb, List, [], ◌∷◌, ◌++◌, length, take, drop, ◌==◌, nat_eq, nat_le}
+use Rattle.std.proofs.Math.Path.{refl, sym}
+use Rattle.std.proofs.lemmas.Result.{IfErr-at_err}
+use Rattle.units.specs.Handed.{handed, refusal_of, number_of}
+use Rattle.units.specs.declared.refusals.Refusal.{Refusal}
 use Rattle.std.proofs.Common.{arith, le-leb}
 use Rattle.std.proofs.lemmas.Bool.{lt-leb}
 use Rattle.units.specs.Replies.{done, bad_shape, cut, bad_length, bad_version, no_room, refusal}
@@ -74,6 +77,23 @@ module _ (bytes : List ℕ) where
   pub said_reply : (format_of bytes).reply ≡ format_refusal bytes
   unfolding format_of
   said_reply = refl
+
+-- a refusal of a format has its reply's number
+numbered : {A : Type 0} (long kind together shape : Bool) (made : A)
+    → IfErr (handed (cond long (cond kind (cond together (cond shape done bad_shape) bad_length) bad_version) cut) made)
+    (λ d. number_of d ≡ cond long (cond kind (cond together (cond shape done bad_shape) bad_length) bad_version) cut)
+unfolding handed refusal_of number_of
+numbered false kind together shape made = refl
+numbered true false together shape made = refl
+numbered true true false shape made = refl
+numbered true true true false made = refl
+numbered true true true true made = tt
+
+pub format_number : {A : Type 0} (bytes : List ℕ) (made : A) (e : Refusal) → Err e ≡ handed (format_of bytes).reply made → number_of e ≡ (format_of bytes).reply
+unfolding format_of format_refusal
+format_number bytes made e h =
+    IfErr-at_err (λ d. number_of d ≡ (format_of bytes).reply) (sym h)
+    (numbered (nat_le 16 (length bytes)) (kind bytes) (together bytes) (shape bytes) made)
 
 -- A head has as many bytes as it says.
 pub head_length_lem : (channels samples mask size : ℕ) → length (head_bytes channels samples mask size) ≡ head_length mask

@@ -4,4 +4,4 @@ use Rattle.recording_run.proofs.levelling.extent_of.Goals as goal
 
 pub returns : goal.returns
 unfolding extent_of
-returns c = rw (c.pick.ensures, c.pick.ensures, c.whole_groups-whole.ensures.value, c.is_unknown-known.ensures)
+returns c = rw (c.pick.ensures, c.pick-2.ensures, c.whole_groups-whole.ensures.value, c.is_unknown-known.ensures)

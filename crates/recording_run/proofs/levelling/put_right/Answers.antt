@@ -2,6 +2,7 @@
 use Rattle.std.proofs.Common.{le-leb}
 use borrow.Author.Tests.{lt-leb}
 use Rattle.recording_run.specs.Levelling.{righted}
+use Rattle.recording_run.specs.Laws.Told.{ok_handed}
 use Rattle.recording_run.proofs.levelling.put_right.Goals as goal
 
 pub returns-then-run-written : goal.returns-then-run-written
@@ -10,24 +11,26 @@ returns-then-run-written c =
     record {
       value = rw (
         ← c.head_bytes-length.ensures,
-        ← c.less.ensures,
-        ← c.less-most.ensures,
+        ← c.saturating_sub.ensures,
+        ← c.saturating_sub-most.ensures,
         ← c.extent_of-extent.ensures,
-        ← c.less-written.ensures,
+        ← c.saturating_sub-written.ensures,
         le-leb _ _ c.if-written-most.true,
         c.if-run-written.true,
         c.pick.ensures,
-        c.write_head-reply.ensures.value,
+        c.is_ok-done.ensures.value,
+        c.write_head.ensures.value,
+        ok_handed,
       );
       out_after = rw (
         ← c.head_bytes-length.ensures,
-        ← c.less.ensures,
-        ← c.less-most.ensures,
+        ← c.saturating_sub.ensures,
+        ← c.saturating_sub-most.ensures,
         ← c.extent_of-extent.ensures,
-        ← c.less-written.ensures,
+        ← c.saturating_sub-written.ensures,
         le-leb _ _ c.if-written-most.true,
         c.if-run-written.true,
-        c.write_head-reply.ensures.out_after,
+        c.write_head.ensures.out_after,
       );
     }
 
@@ -37,19 +40,19 @@ returns-else-run-written c =
     record {
       value = rw (
         ← c.head_bytes-length.ensures,
-        ← c.less.ensures,
-        ← c.less-most.ensures,
+        ← c.saturating_sub.ensures,
+        ← c.saturating_sub-most.ensures,
         ← c.extent_of-extent.ensures,
-        ← c.less-written.ensures,
+        ← c.saturating_sub-written.ensures,
         le-leb _ _ c.if-written-most.true,
         c.if-run-written.false,
       );
       out_after = rw (
         ← c.head_bytes-length.ensures,
-        ← c.less.ensures,
-        ← c.less-most.ensures,
+        ← c.saturating_sub.ensures,
+        ← c.saturating_sub-most.ensures,
         ← c.extent_of-extent.ensures,
-        ← c.less-written.ensures,
+        ← c.saturating_sub-written.ensures,
         le-leb _ _ c.if-written-most.true,
         c.if-run-written.false,
       );
@@ -61,18 +64,18 @@ returns-else-written-most c =
     record {
       value = rw (
         ← c.head_bytes-length.ensures,
-        ← c.less.ensures,
-        ← c.less-most.ensures,
+        ← c.saturating_sub.ensures,
+        ← c.saturating_sub-most.ensures,
         ← c.extent_of-extent.ensures,
-        ← c.less-written.ensures,
+        ← c.saturating_sub-written.ensures,
         lt-leb _ _ c.if-written-most.false,
       );
       out_after = rw (
         ← c.head_bytes-length.ensures,
-        ← c.less.ensures,
-        ← c.less-most.ensures,
+        ← c.saturating_sub.ensures,
+        ← c.saturating_sub-most.ensures,
         ← c.extent_of-extent.ensures,
-        ← c.less-written.ensures,
+        ← c.saturating_sub-written.ensures,
         lt-leb _ _ c.if-written-most.false,
       );
     }

@@ -40,6 +40,6 @@ returns-in-End c = record {
 pub returns-in-Refused : goal.returns-in-Refused
 unfolding entered
 returns-in-Refused c = record {
-  value = rw (c.in-Refused.is, c.stop-in-Refused.ensures);
+  value = rw (c.in-Refused.is, c.refuse.ensures);
   bytes_after = rw c.in-Refused.is;
 }

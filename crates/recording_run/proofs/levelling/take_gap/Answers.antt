@@ -1,12 +1,25 @@
 -- `recording_run::levelling::take_gap` meets its contract. Assumes nothing.
-use Rattle.std.proofs.Common.{eq-eqb, ne_eqb}
+use Rattle.std.proofs.Common.{true, sym, eq-eqb, ne_eqb}
+use Rattle.units.specs.Laws.Handed.{handed_ok, refused_not_done, check_number}
+use Rattle.chain.specs.Chain.{passes}
+use Rattle.chain.specs.Calls.{gap}
 use Rattle.recording_run.specs.Levelling.{gapped}
 use Rattle.recording_run.proofs.levelling.take_gap.Goals as goal
 
-pub returns-then-gapped-eq-DONE : goal.returns-then-gapped-eq-DONE
+pub returns-in-Ok : goal.returns-in-Ok
 unfolding gapped
-returns-then-gapped-eq-DONE c = rw (← c.gap-gapped.ensures, eq-eqb _ _ c.if-gapped-eq-DONE.true, c.after_gap.ensures)
+returns-in-Ok c =
+    let g = gap c.args.run.chain in
+    let ok = handed_ok g.reply g.chain c.in-Ok.chain (sym c.in-Ok.ensures) in
+    rw (eq-eqb _ _ ok.0, ok.1, c.after_gap.ensures)
 
-pub returns-else-gapped-eq-DONE : goal.returns-else-gapped-eq-DONE
-unfolding gapped
-returns-else-gapped-eq-DONE c = rw (← c.gap-gapped.ensures, ne_eqb _ _ c.if-gapped-eq-DONE.false, c.stop.ensures)
+pub returns-in-Err : goal.returns-in-Err
+unfolding gapped gap
+returns-in-Err c =
+    let g = gap c.args.run.chain in
+    rw (
+      ne_eqb _ _ (refused_not_done g.reply g.chain c.in-Err.no_gap c.in-Err.ensures),
+      c.refuse.ensures,
+      c.number.ensures,
+      check_number true (passes c.args.run.chain) true true g.chain c.in-Err.no_gap c.in-Err.ensures,
+    )

@@ -1,5 +1,7 @@
 -- `recording_run::rest::take_rest` meets its contract, by what came out of the strip. Assumes nothing.
+use Rattle.std.proofs.Common.{◌∙◌}
 use Rattle.recording_run.specs.Rest.{rested}
+use Rattle.recording_run.specs.Laws.Told.{gap_or_same}
 use Rattle.recording_run.proofs.rest.take_rest.Goals as goal
 
 pub returns-in-More : goal.returns-in-More
@@ -16,7 +18,7 @@ returns-in-Record c = rw (c.in-Record.is, c.no_gap-in-Record.ensures)
 
 pub returns-in-Gap : goal.returns-in-Gap
 unfolding rested
-returns-in-Gap c = rw (c.in-Gap.is, c.after_gap.ensures, c.gap-gapped.ensures)
+returns-in-Gap c = rw (c.in-Gap.is, c.after_gap.ensures, c.unwrap_or-chain.ensures, c.gap.ensures, gap_or_same)
 
 pub returns-in-End : goal.returns-in-End
 unfolding rested

@@ -5,7 +5,7 @@ use Rattle.recording_run.proofs.wave.after_skip.Goals as goal
 
 pub returns-then-came-gt0 : goal.returns-then-came-gt0
 unfolding after_skip
-returns-then-came-gt0 c = rw (lt-ltb _ _ c.if-came-gt0.true, c.less.ensures)
+returns-then-came-gt0 c = rw (lt-ltb _ _ c.if-came-gt0.true, c.saturating_sub.ensures)
 
 pub returns-else-came-gt0 : goal.returns-else-came-gt0
 unfolding after_skip

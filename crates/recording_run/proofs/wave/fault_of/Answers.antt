@@ -1,24 +1,28 @@
 -- `recording_run::wave::fault_of` meets its contract. Assumes nothing.
-use Rattle.std.proofs.Common.{eq-eqb, ne_eqb}
+use Rattle.std.proofs.Common.{sym, ◌∙◌}
+use Rattle.units.specs.Handed.{number_of}
 use Rattle.recording_run.specs.Wave.{fault_of}
+use Rattle.recording_run.specs.Laws.Wave.{for_sizes}
 use Rattle.recording_run.proofs.wave.fault_of.Goals as goal
 
-pub returns-then-reply-eq-CUT : goal.returns-then-reply-eq-CUT
-unfolding fault_of
-returns-then-reply-eq-CUT c = rw (eq-eqb _ _ c.if-reply-eq-CUT.true)
+pub returns-in-Cut : goal.returns-in-Cut
+unfolding fault_of number_of
+returns-in-Cut c = rw c.in-Cut.is
 
-pub returns-then-reply-eq-VERSION : goal.returns-then-reply-eq-VERSION
-unfolding fault_of
-returns-then-reply-eq-VERSION c = rw (ne_eqb _ _ c.if-reply-eq-CUT.false, eq-eqb _ _ c.if-reply-eq-VERSION.true)
+pub returns-in-Version : goal.returns-in-Version
+unfolding fault_of number_of
+returns-in-Version c = rw c.in-Version.is
 
-pub returns-then-reply-eq-LENGTH : goal.returns-then-reply-eq-LENGTH
-unfolding fault_of
-returns-then-reply-eq-LENGTH c = rw (ne_eqb _ _ c.if-reply-eq-CUT.false, ne_eqb _ _ c.if-reply-eq-VERSION.false, eq-eqb _ _ c.if-reply-eq-LENGTH.true)
+pub returns-in-Length : goal.returns-in-Length
+unfolding fault_of number_of
+returns-in-Length c = rw c.in-Length.is
 
 pub returns-then-channels : goal.returns-then-channels
-unfolding fault_of
-returns-then-channels c = rw (ne_eqb _ _ c.if-reply-eq-CUT.false, ne_eqb _ _ c.if-reply-eq-VERSION.false, ne_eqb _ _ c.if-reply-eq-LENGTH.false, ← c.read_chunk-numbers.ensures, c.if-channels.true)
+returns-then-channels c =
+    let d = c.in_default in
+    rw (for_sizes c.args.refused c.args.bytes.now d.not-Cut d.not-Version d.not-Length, ← c.read_chunk-numbers.ensures, c.if-channels.true)
 
 pub returns-else-channels : goal.returns-else-channels
-unfolding fault_of
-returns-else-channels c = rw (ne_eqb _ _ c.if-reply-eq-CUT.false, ne_eqb _ _ c.if-reply-eq-VERSION.false, ne_eqb _ _ c.if-reply-eq-LENGTH.false, ← c.read_chunk-numbers.ensures, c.if-channels.false)
+returns-else-channels c =
+    let d = c.in_default in
+    rw (for_sizes c.args.refused c.args.bytes.now d.not-Cut d.not-Version d.not-Length, ← c.read_chunk-numbers.ensures, c.if-channels.false)

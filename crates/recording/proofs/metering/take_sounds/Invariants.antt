@@ -1,9 +1,0 @@
--- `recording::metering::take_sounds` is safe and ends. The measure is the number of turns that are left. Assumes nothing.
-use Rattle.std.proofs.Common.{◌≡◌, length}
-use Rattle.recording.proofs.metering.take_sounds.Given as goal
-
-abbrev pub invariant-loop-turns : goal.invariant-loop-turns
-invariant-loop-turns l = length l.bytes ≡ length l.initial.bytes
-
-abbrev pub decreases-loop-turns : goal.decreases-loop-turns
-decreases-loop-turns l = l.turns
