@@ -165,6 +165,7 @@ impl Chain {
     }
 
     // All 0, false and identity: what stands where there is no chain. Every call refuses it.
+    #[tactic(auto, unfolding(crate::specs::Calls::nothing))]
     pub fn none() -> Chain
         ensures { result ≡ nothing }
     {

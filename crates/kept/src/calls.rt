@@ -57,6 +57,7 @@ pub fn make_limiter(samples: usize) -> Result<KeptLimiter, Refusal>
 
 // The refusal of a frame whose state is none: 1 where its shape is none or its samples are not those that were set,
 // otherwise 4.
+#[tactic(auto, unfolding(units::specs::Handed::number_of, units::specs::Replies::refusal))]
 fn refuse_state(channels: usize, samples: usize, length: usize, set: usize) -> Refusal
     ensures { number_of_refusal result ≡ refusal (is_shape channels samples length && eqb samples set) false true true }
 {
@@ -114,6 +115,7 @@ pub fn make_chain(
 
 impl KeptAnswer {
     // All 0: what is told of a frame that is refused, as of one that is no speech.
+    #[tactic(auto, unfolding(crate::specs::Calls::kept_answer))]
     pub fn none() -> KeptAnswer
         ensures { result ≡ kept_answer non_speech }
     {
@@ -190,6 +192,7 @@ pub fn mark_gap(kept: KeptChain) -> Result<KeptChain, Refusal>
 
 impl Published {
     // All 0: what stands where nothing is published.
+    #[tactic(auto, unfolding(crate::specs::Calls::kept_published, crate::specs::States::number_of))]
     pub fn none() -> Published
         ensures { result ≡ kept_published nothing_published }
     {

@@ -97,6 +97,7 @@ pub struct KeptChain {
 }
 
 // Whether a number is a flag.
+#[tactic(auto, unfolding(crate::specs::States::is_flag))]
 fn is_flag(n: u32) -> bool
     ensures { result ≡ is_flag n }
 {
@@ -104,6 +105,7 @@ fn is_flag(n: u32) -> bool
 }
 
 // The flag of a number: whether it is 1.
+#[tactic(auto, unfolding(crate::specs::States::flag_of))]
 fn flag_of(n: u32) -> bool
     ensures { result ≡ flag_of n }
 {
@@ -111,6 +113,7 @@ fn flag_of(n: u32) -> bool
 }
 
 // The last 32 bits of a number: the number itself where it has no more.
+#[tactic(auto, unfolding(crate::specs::States::narrow))]
 fn narrow(n: usize) -> u32
     ensures { result ≡ narrow n }
 {
@@ -119,6 +122,7 @@ fn narrow(n: usize) -> u32
 
 impl KeptEnvelope {
     // The envelope's estimator that is kept.
+    #[tactic(auto, unfolding(crate::specs::States::envelope_of))]
     fn estimator(self) -> fixed_digital_level_estimator::Estimator
         ensures { result ≡ envelope_of self }
     {
@@ -148,6 +152,7 @@ impl From<fixed_digital_level_estimator::Estimator> for KeptEnvelope {
 // before 4, so the test and what is kept stand apart.
 impl KeptLimiter {
     // All 0: what stands where there is no limiter. Every call refuses it.
+    #[tactic(auto, unfolding(crate::specs::States::none_limiter))]
     pub fn none() -> KeptLimiter
         ensures { result ≡ none_limiter }
     {
@@ -156,6 +161,7 @@ impl KeptLimiter {
     }
 
     // Whether each number that stands for a flag is one.
+    #[tactic(auto, unfolding(crate::specs::States::sound_limiter))]
     pub(crate) fn is_sound(self) -> bool
         ensures { result ≡ sound_limiter self }
     {
@@ -223,6 +229,7 @@ impl From<Limiter> for KeptLimiter {
 
 impl KeptChain {
     // All 0: what stands where there is no chain. Every call refuses it.
+    #[tactic(auto, unfolding(crate::specs::States::none_chain))]
     pub fn none() -> KeptChain
         ensures { result ≡ none_chain }
     {
@@ -231,6 +238,7 @@ impl KeptChain {
     }
 
     // Whether each number that stands for a flag is one.
+    #[tactic(auto, unfolding(crate::specs::States::sound_chain))]
     pub(crate) fn is_sound(self) -> bool
         ensures { result ≡ sound_chain self }
     {

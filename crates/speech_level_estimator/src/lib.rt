@@ -57,6 +57,7 @@ pub struct Estimator {
 
 impl Average {
     // The average of a level alone, with the weight 1 and all of the time left.
+    #[tactic(auto, unfolding(crate::specs::Average::starting))]
     fn starting(initial: f32) -> Average
         ensures { result ≡ starting initial }
     {
@@ -68,6 +69,7 @@ impl Average {
     }
 
     // All 0: what stands in a state that was refused.
+    #[tactic(auto, unfolding(crate::specs::Average::none))]
     fn none() -> Average
         ensures { result ≡ none }
     {
@@ -95,6 +97,7 @@ impl Average {
 
     // The average with one frame more, of this level and this weight. The sum and the weight so far leak
     // once no time is left.
+    #[tactic(auto, unfolding(crate::specs::Average::advanced))]
     fn advanced(self, rms: f32, weight: f32) -> Average
         ensures { result ≡ advanced rms weight self }
     {
@@ -107,6 +110,7 @@ impl Average {
     }
 
     // The level: the sum by the weight, from -90 to 30.
+    #[tactic(auto, unfolding(crate::specs::Average::level))]
     fn level(self) -> f32
         ensures { result ≡ level self }
     {
@@ -115,6 +119,7 @@ impl Average {
 }
 
 // The level to start with: -20 less the initial gain and the headroom, from -90 to 30.
+#[tactic(auto, unfolding(crate::specs::Estimator::starting_level))]
 fn starting_level(settings: Settings) -> f32
     ensures { result ≡ starting_level settings }
 {
@@ -125,6 +130,7 @@ fn starting_level(settings: Settings) -> f32
 
 // Whether the level is trusted. With a threshold of 1 that is so once the preliminary state has no time
 // left; otherwise once the reliable one has none, or the preliminary one of a run that is long enough.
+#[tactic(auto, unfolding(crate::specs::Estimator::trusted))]
 fn is_trusted(threshold: u32, count: u32, preliminary: u32, reliable: u32) -> bool
     ensures { result ≡ trusted threshold count preliminary reliable }
 {
@@ -134,6 +140,7 @@ fn is_trusted(threshold: u32, count: u32, preliminary: u32, reliable: u32) -> bo
 }
 
 // The estimator at its start: both states begin with the starting level, which is published.
+#[tactic(auto, unfolding(crate::specs::Estimator::fresh))]
 fn fresh(settings: Settings, threshold: u32, initial: f32) -> Estimator
     ensures { result ≡ fresh settings threshold initial }
 {
@@ -186,6 +193,7 @@ impl Estimator {
 
     // Whether a handed-in state passes: settings, threshold and published level in their ranges, the
     // starting level that the settings give, a run no longer than the threshold, and two averages that pass.
+    #[tactic(auto, unfolding(crate::specs::Estimator::passes))]
     pub fn passes(self) -> bool
         ensures { result ≡ passes_estimator self }
     {
