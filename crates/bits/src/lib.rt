@@ -35,6 +35,7 @@ pub fn float_of(bits: u32) -> f32
 }
 
 // The bits of a float; of a NaN those with only the highest digit set.
+#[tactic(auto, unfolding(crate::specs::Floats::pattern_of))]
 pub fn bits_of(x: f32) -> u32
     ensures { result ≡ pattern_of x }
 {

@@ -146,7 +146,8 @@ fn count(tally: Tally, written: Result<usize, Refusal>) -> Line
     }
 }
 
-// The head, in the version that the strip is carried to.
+// The head, in the version that the strip is carried to. This and the two that follow stay three: as one they would take the
+// writer as a closure, and the clauses would have to say once more what each writer promises, which is no plainer.
 fn carry_head(tally: Tally, head: Head, out: &mut [u8]) -> Line
     requires { length (shown tally (Reading.head head)).line ≤ length out.old }
     ensures value { result ≡ line_of (shown tally (Reading.head head)) }
@@ -209,6 +210,7 @@ fn end_with(tally: Tally, reply: u32, at: u64) -> Line
 }
 
 // Puts out what the strip hands out, in the other version.
+#[tactic(auto, unfolding(crate::specs::Run::shown, strip_reader::specs::Reader::handed))]
 fn show(tally: Tally, got: Got, out: &mut [u8]) -> Line
     requires { length (shown tally (handed got)).line ≤ length out.old }
     ensures value { result ≡ line_of (shown tally (handed got)) }
@@ -225,6 +227,7 @@ fn show(tally: Tally, got: Got, out: &mut [u8]) -> Line
 }
 
 // The same while the strip goes on; once it has ended nothing is put out.
+#[tactic(auto, unfolding(crate::specs::Run::told))]
 fn tell(tally: Tally, got: Got, out: &mut [u8]) -> Line
     requires { length (told tally (handed got)).line ≤ length out.old }
     ensures value { result ≡ line_of (told tally (handed got)) }
@@ -237,7 +240,8 @@ fn tell(tally: Tally, got: Got, out: &mut [u8]) -> Line
     }
 }
 
-// Takes the bytes of a block, one after the other, and keeps nothing of what is put out.
+// Takes the bytes of a block, one after the other, and keeps nothing of what is put out: each line is written over the one
+// before, and not behind it, as `take_bytes` does.
 fn judge_bytes(run: Run, block: &[u8]) -> Run
     ensures { result ≡ run_of run.place (bytes_ran run block.now) }
 {
@@ -283,6 +287,7 @@ fn take_bytes(run: Run, block: &[u8], out: &mut [u8]) -> Taken
 }
 
 // Ends with the strip. Nothing is put out then.
+#[tactic(auto, using(crate::specs::Laws::Room::told_most), unfolding(strip_reader::specs::Telling::ended))]
 fn finish(run: Run) -> Run
     ensures { result ≡ run_of run.place (ended told run.reader run.tally) }
 {
@@ -297,6 +302,7 @@ fn finish(run: Run) -> Run
 
 impl Run {
     // A run that has seen no byte of a strip of this version.
+    #[tactic(auto, unfolding(crate::specs::Run::new, crate::specs::Run::at_start))]
     pub fn new(from: Version) -> Run
         ensures { result ≡ new from }
     {
