@@ -19,7 +19,7 @@ ghost use Rattle.io.specs.Counts.{IsPrefixLen};
 
 use std::fs;
 use std::fs::{File, OpenOptions};
-use std::io::{Result as IoResult, Seek};
+use std::io::Seek;
 use std::os::unix::fs::{FileExt, FileTypeExt};
 use strip_carry::{End, Run, Way, end_of, told_of, way_of};
 use strip_format::Version;
@@ -35,6 +35,9 @@ const FILE_WORD: &[u8] = b"--file";
 
 // The strip by its path. Who opens that opens standard input once more, at its start.
 const STRIP: &str = "/proc/self/fd/0";
+
+// What a message calls standard output.
+const OUTPUT: &str = "carry: standard output";
 
 // The descriptor that the number is written to.
 const REPLY_FILENO: i32 = 3;
@@ -72,20 +75,10 @@ fn read_block(rt: &HostRuntime, strip: &File, block: &mut [u8], place: u64) -> O
 {
     match strip.read_at(block, offset(place)) {
         Ok(n) => Some(n),
+        // No outside::or_tell: the name is looked up only where it is needed.
         Err(e) => {
             outside::fail(rt, strip_name(rt), e);
             None
-        }
-    }
-}
-
-// Whether what was done with standard output went well. Where not, it is told.
-fn went_well(rt: &HostRuntime, output: IoResult<()>) -> bool {
-    match output {
-        Ok(()) => true,
-        Err(e) => {
-            outside::fail(rt, "carry: standard output", e);
-            false
         }
     }
 }
@@ -113,7 +106,8 @@ fn go_through(rt: &HostRuntime, strip: &File, from: Version, writes: bool) -> Go
             };
         };
         run = taken.run;
-        let written = !writes || went_well(rt, rt.write_all(&out[..taken.length]));
+        let written = !writes
+            || outside::or_tell(rt, OUTPUT, rt.write_all(&out[..taken.length])).is_some();
         if !written || !run.tally.more {
             return Gone {
                 run,
@@ -132,7 +126,8 @@ fn go_through(rt: &HostRuntime, strip: &File, from: Version, writes: bool) -> Go
 // Writes the strip that was read first, and tells how that ended.
 fn write_strip(rt: &HostRuntime, strip: &File, from: Version, first: Run) {
     let gone = go_through(rt, strip, from, true);
-    let settled = gone.read & gone.written && went_well(rt, outside::settle_output(rt));
+    let settled = gone.read & gone.written
+        && outside::or_tell(rt, OUTPUT, outside::settle_output(rt)).is_some();
     match end_of(first, gone.run, gone.read, gone.written, settled) {
         None => {}
         Some(End::Changed) => outside::tell(
@@ -208,17 +203,13 @@ fn told_of_open(rt: &HostRuntime, strip: Option<File>, text: &str) -> Option<Fil
 
 // Opens the strip that the last word names.
 fn open_named(rt: &HostRuntime) -> Option<File> {
-    match outside::open_word(rt, 3, OpenOptions::new().read(true)) {
-        Ok(file) => told_of_open(
-            rt,
-            with_places(file),
-            "carry: the strip cannot be read twice: give a file, and no pipe\n",
-        ),
-        Err(e) => {
-            outside::fail(rt, "carry: the strip", e);
-            None
-        }
-    }
+    let opened = outside::open_word(rt, 3, OpenOptions::new().read(true));
+    let file = outside::or_tell(rt, "carry: the strip", opened)?;
+    told_of_open(
+        rt,
+        with_places(file),
+        "carry: the strip cannot be read twice: give a file, and no pipe\n",
+    )
 }
 
 // Opens standard input once more, where that can be done.
