@@ -1,10 +1,9 @@
 // The desk's numbers: three kinds of level that are never mixed, the range of each figure and of
-// each setting, and the numbers of the replies. A test of a range is false at a NaN.
+// each setting, and what is refused. A test of a range is false at a NaN.
 
 #![tactic(auto)]
 
 pub mod figures;
 pub mod kinds;
 pub mod refusals;
-pub mod replies;
 pub mod settings;
