@@ -36,8 +36,7 @@ fn read_block(rt: &HostRuntime, block: &mut [u8]) -> Option<usize>
 fn take_block(rt: &HostRuntime, run: Run, block: &[u8], out: &mut [u8]) -> (Run, bool) {
     match run.take(block, out) {
         Ok(taken) => {
-            let lines = &out[..taken.length];
-            let written = outside::or_tell(rt, OUTPUT, rt.write_all(lines));
+            let written = outside::or_tell(rt, OUTPUT, rt.write_all(&out[..taken.length]));
             (taken.run, written.is_some())
         }
         Err(_) => {
