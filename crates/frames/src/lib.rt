@@ -33,6 +33,9 @@ pub fn is_samples(samples: usize) -> bool
 }
 
 // Whether a buffer of this length holds 1 to 8 channels of such samples, and nothing more.
+// Channels and samples stay two parameters beside a frame, here and in each call above: C hands them on one by one, and the
+// definitions take them so. With a struct of both each clause would take it apart again, as in
+// `processed self frame.old shape.channels shape.samples`.
 pub fn is_shape(channels: usize, samples: usize, length: usize) -> bool
     ensures { result ≡ is_shape channels samples length }
 {
