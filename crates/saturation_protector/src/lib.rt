@@ -71,15 +71,11 @@ fn pushed_when(due: bool, ring: Ring, peak: f32) -> Ring
     }
 }
 
-// Whether each of these slots lies from -150 to 50. It looks at every one of them, whatever it finds.
+// Whether each of these slots lies from -150 to 50.
 fn are_levels(slots: &[f32]) -> bool
     ensures { result ≡ all_levels slots.now }
 {
-    let mut ok = true;
-    for x in slots {
-        ok &= is_level(Dbfs(*x));
-    }
-    ok
+    slots.iter().all(|x| is_level(Dbfs(*x)))
 }
 
 // The oldest peak of a ring, and the other value where it has none.

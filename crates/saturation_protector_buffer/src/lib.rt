@@ -218,15 +218,11 @@ impl Ring {
     }
 }
 
-// Whether each of these slots is finite. It looks at every one of them, whatever it finds.
+// Whether each of these slots is finite.
 fn are_finite(slots: &[f32]) -> bool
     ensures { result ≡ all_finite slots.now }
 {
-    let mut ok = true;
-    for x in slots {
-        ok &= floats::is_finite(*x);
-    }
-    ok
+    slots.iter().all(|x| floats::is_finite(*x))
 }
 
 // The Rust's eq: as many peaks, and each equal to the other's, oldest first.

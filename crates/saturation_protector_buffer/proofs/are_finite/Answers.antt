@@ -1,27 +1,19 @@
--- `saturation_protector_buffer::are_finite` meets its contract. The invariant: what was found so far, and the test of what is left, is the test of the whole.
--- Assumes nothing.
-use mathlib.Core.Bool.{◌&&◌, and_assoc, and-true}
-use mathlib.Core.List.{List}
-use mathlib.Core.Path.{sym, ◌∙◌}
-use native.Mathlib.Omega.{arith}
-use lib.Ieee.{Float, nan}
-use Rattle.lists.specs.Loops.{scan, scan_done}
+-- `saturation_protector_buffer::are_finite` meets its contract: `all` is asked of each slot. Assumes nothing.
+use Rattle.std.proofs.Common.{◌≡◌, ◌∙◌, refl, ap, ◌&&◌, Bool, List, [], ◌∷◌, rules, tests}
+use Rattle.std.specs.List.{list_all}
+use Rattle.std.specs.Prelude.{Float}
+use Rattle.std.specs.Float.Ieee.Scale.{finite}
+use Rattle.std.proofs.lemmas.Iterator.{YieldsList-from_slice}
+use Rattle.std.proofs.lemmas.Iterator.Search.{all_from_yields_List}
 use Rattle.saturation_protector_buffer.specs.Rings.{all_finite}
 use Rattle.saturation_protector_buffer.proofs.are_finite.Goals as goal
 
-pub loop-x-preserved : goal.loop-x-preserved
+listed : (xs : List Float) → list_all finite xs ≡ all_finite xs
 unfolding all_finite
-loop-x-preserved c =
-    let slots = c.args.slots.now in
-    let loop = c.loop-x in
-    let ok = loop.ok in
-    let r = c.is_finite-ok.result in
-    scan (λ (ys : List Float). ok && all_finite ys) (λ (ys : List Float). ok && r && all_finite ys) slots loop.x-index nan c.loop-x-test.true
-    (rw c.is_finite-ok.ensures (sym (and_assoc ok _ _)))
-    ∙ loop.invariant
+listed [] = refl
+listed (x ∷ xs) = ap (λ (b : Bool). finite x && b) (listed xs)
 
 pub returns : goal.returns
-unfolding all_finite
 returns c =
-    let loop = c.loop-x in
-    sym (and-true loop.ok) ∙ sym (scan_done (λ (ys : List Float). loop.ok && all_finite ys) c.args.slots.now loop.x-index (omega arith)) ∙ loop.invariant
+    all_from_yields_List finite _ _ c.all.result c.all.ensures.ran (YieldsList-from_slice c.args.slots.now cc) (λ x b q k. search (rules, tests))
+    ∙ listed c.args.slots.now
