@@ -285,7 +285,8 @@ impl Run {
         if block.len() >= out.len() / LONGEST {
             return Err(Refusal::Room);
         }
-        if block.is_empty() {
+        let last = block.is_empty();
+        if last {
             Ok(finish(self, out))
         } else {
             Ok(take_bytes(self, block, out))

@@ -42,18 +42,18 @@ returns-then-block-out c =
     let both = no_room c.args.self c.args.block.now c.args.out.now c.if-block-out.true in
     record { value = both.0; out_after = both.1 }
 
-pub returns-then-is_empty : goal.returns-then-is_empty
-returns-then-is_empty c =
+pub returns-then-last : goal.returns-then-last
+returns-then-last c =
     let a = c.args in
-    let last = c.finish in
+    let end = c.finish in
     let none : length a.block.now ≡ 0 = grind (arith, common_steps) in
-    let both = end_is a.self a.block.now a.out.now last.result _ c.if-block-out.false none last.ensures.run last.ensures.length last.ensures.out_after in
+    let both = end_is a.self a.block.now a.out.now end.result _ c.if-block-out.false none end.ensures.run end.ensures.length end.ensures.out_after in
     record { value = both.0; out_after = both.1 }
 
-pub returns-else-is_empty : goal.returns-else-is_empty
-returns-else-is_empty c =
+pub returns-else-last : goal.returns-else-last
+returns-else-last c =
     let a = c.args in
-    let last = c.take_bytes in
+    let end = c.take_bytes in
     let some : length a.block.now ≡ 0 → ⊥ = λ (e : length a.block.now ≡ 0). grind (arith, common_steps) in
-    let both = bytes-are a.self a.block.now a.out.now last.result _ c.if-block-out.false some last.ensures.run last.ensures.length last.ensures.out_after in
+    let both = bytes-are a.self a.block.now a.out.now end.result _ c.if-block-out.false some end.ensures.run end.ensures.length end.ensures.out_after in
     record { value = both.0; out_after = both.1 }
