@@ -102,14 +102,24 @@ fn nothing(frame: &mut [f32], ask: Ask) -> Outcome {
     over(frame, ask, |_, _, _| Ok(()))
 }
 
+// Three parts, whose own work takes a few hundred instructions, have the loop of `over` themselves: through a closure
+// their state is copied once more in each frame, which was measured as 28, 52 and 15 instructions, 7 to 16 %.
+
 // The level of the speech. The digest ends with it.
 fn hear(frame: &mut [f32], ask: Ask) -> Outcome {
     let new = SpeechLevel::new(Settings::usual(), THRESHOLD);
     let mut estimator = new.unwrap_or(SpeechLevel::none());
-    let made = over(frame, ask, |_, tape, _| {
-        estimator = estimator.update(tape.figures.rms, tape.figures.probability)?;
-        Ok(())
-    });
+    let mut tape = sound::start();
+    let mut refused = false;
+    for number in 0..ask.frames {
+        tape = sound::turn(frame, tape, ask.sound, number);
+        match estimator.update(tape.figures.rms, tape.figures.probability) {
+            Ok(after) => estimator = after,
+            Err(_) => refused = true,
+        }
+    }
+    let digest = tape.digest;
+    let made = Outcome { digest, refused };
     made.with(&[estimator.level])
 }
 
@@ -117,11 +127,18 @@ fn hear(frame: &mut [f32], ask: Ask) -> Outcome {
 fn protect(frame: &mut [f32], ask: Ask) -> Outcome {
     let new = Protector::new(Db(INITIAL), THRESHOLD, RING);
     let mut protector = new.unwrap_or(Protector::none());
-    let made = over(frame, ask, |_, tape, _| {
+    let mut tape = sound::start();
+    let mut refused = false;
+    for number in 0..ask.frames {
+        tape = sound::turn(frame, tape, ask.sound, number);
         let figures = tape.figures;
-        protector = protector.analyze(figures.probability, figures.peak, figures.rms)?;
-        Ok(())
-    });
+        match protector.analyze(figures.probability, figures.peak, figures.rms) {
+            Ok(after) => protector = after,
+            Err(_) => refused = true,
+        }
+    }
+    let digest = tape.digest;
+    let made = Outcome { digest, refused };
     made.with(&[protector.headroom])
 }
 
@@ -194,12 +211,20 @@ fn count(n: u64) -> f32 {
 fn look_up(frame: &mut [f32], ask: Ask) -> Outcome {
     let mut curve = Curve::new();
     let mut gains = 0.0;
-    let made = over(frame, ask, |_, tape, _| {
-        let looked = curve.look_up_gain_to_apply(LinearS16(tape.level))?;
-        curve = looked.curve;
-        gains += looked.gain;
-        Ok(())
-    });
+    let mut tape = sound::start();
+    let mut refused = false;
+    for number in 0..ask.frames {
+        tape = sound::turn(frame, tape, ask.sound, number);
+        match curve.look_up_gain_to_apply(LinearS16(tape.level)) {
+            Ok(looked) => {
+                curve = looked.curve;
+                gains += looked.gain;
+            }
+            Err(_) => refused = true,
+        }
+    }
+    let digest = tape.digest;
+    let made = Outcome { digest, refused };
     made.with(&[
         gains,
         count(curve.identity),
