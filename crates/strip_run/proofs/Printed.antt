@@ -8,12 +8,9 @@ use Rattle.units.specs.Handed.{number_of, handed}
 use Rattle.units.specs.Laws.Handed.{handed_ok, refused_not_done, check_number, number_not_done}
 use Rattle.units.specs.Replies.{done}
 use Rattle.units.specs.Output.{put}
-use Rattle.units.specs.Figures as Figures
-use Rattle.units.specs.Settings as Settings
 use Rattle.units.specs.declared.figures.Figures.{Figures as Metered}
 use Rattle.units.specs.declared.refusals.Refusal.{Refusal}
 use Rattle.frames.specs.Shape.{is_samples}
-use Rattle.saturation_protector_buffer.specs.Ring.{is_capacity}
 use Rattle.chain.specs.Answer.{said}
 use Rattle.chain.specs.Chain.{passes}
 use Rattle.chain.specs.Calls as Chaining
@@ -27,7 +24,7 @@ use Rattle.strip_format.specs.declared.Head.{Head}
 use Rattle.strip_lines.specs.Lines.{longest, gap_kind, record_line, refusal_line}
 use Rattle.strip_lines.specs.Calls as Putting
 use Rattle.strip_lines.specs.Laws.Ends.{record_line_fits, refusal_line_fits}
-use Rattle.strip_reader.specs.Telling.{Shown, unchanged}
+use Rattle.strip_reader.specs.Telling.{Shown}
 use Rattle.strip_run.specs.Lines.{after, refused_at, begun_with, begun, silence, lined, published_with, published, answered, framed_with, framed, gapped_with, gapped}
 use Rattle.strip_run.specs.Run.{line_of, line_out, PutOrRefused}
 use Rattle.strip_run.specs.declared.Desk.{Desk}

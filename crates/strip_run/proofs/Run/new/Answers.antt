@@ -8,7 +8,6 @@ use Rattle.strip_reader.specs.Reader.{fresh}
 use Rattle.strip_reader.specs.declared.Reader.{Reader}
 use Rattle.strip_run.specs.Lines.{at_start}
 use Rattle.strip_run.specs.Run.{new}
-use Rattle.strip_run.specs.declared.Run.{Run}
 use Rattle.strip_run.proofs.Run.new.Goals as goal
 
 -- there is no chain before the head: one that is refused is all 0
