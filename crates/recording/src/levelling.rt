@@ -198,7 +198,12 @@ fn end_well(rt: &HostRuntime, desk: Desk<'_, '_>, block: &mut [u8], both: Both) 
 }
 
 // Levels all frames, and answers what is said at the end.
-pub(crate) fn level(rt: &HostRuntime, desk: Desk<'_, '_>, block: &mut [u8], both: Both) -> Option<u32> {
+pub(crate) fn level(
+    rt: &HostRuntime,
+    desk: Desk<'_, '_>,
+    block: &mut [u8],
+    both: Both,
+) -> Option<u32> {
     let last = take_all(rt, desk, block, both);
     let run = last.run;
     if run.well {

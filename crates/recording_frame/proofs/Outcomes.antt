@@ -70,15 +70,17 @@ module _ (chain : Chain) (figures : Figures) (bytes : List ℕ) (frame : List Fl
       pub unwritten : (answer : Result Chain Refusal) (e : Refusal) (out : List ℕ) → IsErrAnd answer (λ d. d ≡ e)
           → Err e ≡ handed (frame_written after channels samples bytes).reply (tt {0}) → out ≡ (frame_written after channels samples bytes).out → Meets answer out
       unwritten answer e out said h o =
-          by_way _ answer out (laws.taken bytes frame channels samples long chain figures done_read (sym took))
-          (refused_by answer e _ (tt {0}) known.told.chain said (h ∙ ap (λ (x : List Float). handed (frame_written x channels samples bytes).reply (tt {0})) same_frame),
-          o ∙ ap (λ (x : List Float). (frame_written x channels samples bytes).out) same_frame)
+          by_way _ answer out (laws.taken bytes frame channels samples long chain figures done_read (sym took)) (
+            refused_by answer e _ (tt {0}) known.told.chain said (h ∙ ap (λ (x : List Float). handed (frame_written x channels samples bytes).reply (tt {0})) same_frame),
+            o ∙ ap (λ (x : List Float). (frame_written x channels samples bytes).out) same_frame,
+          )
 
       -- or it is, and the chain goes on
       pub written : (out : List ℕ) → Ok (tt {0}) ≡ handed (frame_written after channels samples bytes).reply (tt {0}) → out ≡ (frame_written after channels samples bytes).out
           → Meets (Ok next.chain) out
       written out h o =
           let done_written = passed_done _ (tt {0}) (tt {0}) (h ∙ ap (λ (x : List Float). handed (frame_written x channels samples bytes).reply (tt {0})) same_frame) in
-          by_way _ (Ok next.chain) out (laws.taken bytes frame channels samples long chain figures done_read (sym took))
-          (ap Ok goes ∙ sym (handed_done (frame_written known.frame channels samples bytes).reply known.told.chain done_written),
-          o ∙ ap (λ (x : List Float). (frame_written x channels samples bytes).out) same_frame)
+          by_way _ (Ok next.chain) out (laws.taken bytes frame channels samples long chain figures done_read (sym took)) (
+            ap Ok goes ∙ sym (handed_done (frame_written known.frame channels samples bytes).reply known.told.chain done_written),
+            o ∙ ap (λ (x : List Float). (frame_written x channels samples bytes).out) same_frame,
+          )

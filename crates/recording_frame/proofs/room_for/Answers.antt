@@ -19,6 +19,6 @@ pub returns-else-channels-le8-clause-value : goal.returns-else-channels-le8-clau
 unfolding room_for
 returns-else-channels-le8-clause-value c =
     elim c.else-channels-le8.branch [
-      else-channels-le8-via-then-channels-le8+else-samples-le480 w ↦ rw (le-leb _ _ w.if-channels-le8.true, lt-leb _ _ w.if-samples-le480.false)
-    | else-channels-le8-via-else-channels-le8 w ↦ rw (lt-leb _ _ w.if-channels-le8.false)
+      | else-channels-le8-via-then-channels-le8+else-samples-le480 w ↦ rw (le-leb _ _ w.if-channels-le8.true, lt-leb _ _ w.if-samples-le480.false)
+      | else-channels-le8-via-else-channels-le8 w ↦ rw (lt-leb _ _ w.if-channels-le8.false)
     ]
