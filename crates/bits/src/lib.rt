@@ -7,20 +7,11 @@ ghost use Rattle.std.specs.Float.{binary32};
 ghost use Rattle.std.specs.Float.Ieee.{nan_bits};
 ghost use Rattle.bits.specs.Floats.{float_of, pattern_of};
 
-// A float's bits are its sign, then the eight digits of its exponent, then those of its fraction. So much are the sign and the
-// exponent's lowest digit worth.
-const SIGN: u32 = 0x8000_0000;
-
-const EXPONENT: u32 = 0x0080_0000;
-
-// The bits of a NaN: of its fraction only the highest digit is set.
-const NAN: u32 = 0x7fc0_0000;
-
 // Whether bits are those of a NaN.
 pub fn is_nan(bits: u32) -> bool
     ensures { result ≡ nan_bits binary32 bits }
 {
-    (bits % SIGN / EXPONENT == 255) & (bits % EXPONENT != 0)
+    (bits % 2147483648 / 8388608 == 255) & (bits % 8388608 != 0)
 }
 
 // The float of bits; of a NaN's bits, whichever they are, a NaN, which is not made of them.
@@ -35,9 +26,8 @@ pub fn float_of(bits: u32) -> f32
 }
 
 // The bits of a float; of a NaN those with only the highest digit set.
-#[tactic(auto, unfolding(crate::specs::Floats::pattern_of))]
 pub fn bits_of(x: f32) -> u32
     ensures { result ≡ pattern_of x }
 {
-    if x == x { f32::to_bits(x) } else { NAN }
+    if x == x { f32::to_bits(x) } else { 2143289344 }
 }
