@@ -133,7 +133,7 @@ fn asked(rt: &HostRuntime) -> Option<ring_word::Wish> {
     let mut second = io::buffer();
     let n = outside::word(rt, 1, &mut first);
     let m = outside::word(rt, 2, &mut second);
-    ring_asked(&first[..n], &second[..m])
+    ring_asked(&first[..n], &second[..m]).ok()
 }
 
 // Levels the recording with the strip that the word of this number names. The word after it may name the output.

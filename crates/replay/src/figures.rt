@@ -9,7 +9,7 @@ type Spelled = [u8; 9];
 // The number of a figure: none where it is not spelled so.
 fn number(figure: &Spelled) -> Option<u32> {
     if figure[0] == b' ' {
-        words::read(figure, 1)
+        words::read(figure, 1).ok()
     } else {
         None
     }

@@ -1,5 +1,5 @@
 -- "The programs take 4 unless `--ring N` is given": the first two words of a command. Definitions only.
-use Rattle.std.specs.Prelude.{Bool, true, ◌&&◌, cond, List, ℕ, ◌+◌, ◌*◌, ◌-◌, leb, eqb, length, get_or, Option, Some, None}
+use Rattle.std.specs.Prelude.{Bool, true, ◌&&◌, cond, List, ℕ, ◌+◌, ◌*◌, ◌-◌, leb, eqb, length, get_or, Result, Ok, Err}
 use Rattle.saturation_protector_buffer.specs.Ring.{is_capacity, usual}
 use Rattle.ring_word.specs.declared.Wish.{Wish}
 
@@ -44,6 +44,6 @@ unfolding is_ring number_of is_capacity
 asked_by first second =
     cond (is_ring first) (record { ok = is_capacity (number_of second); capacity = number_of second; from = 3 }) (record { ok = true; capacity = usual; from = 1 })
 
--- what the code answers: the wish, where it can be had
-unfoldable pub granted : Asked → Option Wish
-granted a = cond a.ok (Some (record { capacity = a.capacity; from = a.from })) None
+-- what the code answers: the wish, which is an Err where it cannot be had
+unfoldable pub granted : Asked → Result Wish Wish
+granted a = cond a.ok (Ok (record { capacity = a.capacity; from = a.from })) (Err (record { capacity = a.capacity; from = a.from }))

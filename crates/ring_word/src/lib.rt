@@ -37,7 +37,7 @@ fn digit(byte: u8) -> Option<u32>
 
 // The number that a word of one or two digits is.
 #[tactic(auto, unfolding(crate::specs::Words::number_of, crate::specs::Words::one_digit, crate::specs::Words::two_digits))]
-fn number_of(word: &[u8]) -> Option<u32>
+fn spelled(word: &[u8]) -> Option<u32>
     ensures { unwrap_or result 0 ≡ number_of word.now }
 {
     match word {
@@ -47,20 +47,28 @@ fn number_of(word: &[u8]) -> Option<u32>
     }
 }
 
-// What the first two words of a command ask for; a word that is not there is empty. None where no ring has that capacity.
+// The same, and 0 for what is no number: no ring has that capacity.
+fn number_of(word: &[u8]) -> u32
+    ensures { result ≡ number_of word.now }
+{
+    spelled(word).unwrap_or(0)
+}
+
+// What the first two words of a command ask for; a word that is not there is empty. Where no ring has that capacity, it is an Err.
 #[tactic(auto, unfolding(crate::specs::Words::granted, crate::specs::Words::asked_by))]
-pub fn ring_asked(first: &[u8], second: &[u8]) -> Option<Wish>
+pub fn ring_asked(first: &[u8], second: &[u8]) -> Result<Wish, Wish>
     ensures { result ≡ granted (asked_by first.now second.now) }
 {
     if is_ring(first) {
-        let capacity = number_of(second)?;
+        let capacity = number_of(second);
+        let wish = Wish { capacity, from: 3 };
         if is_capacity(capacity) {
-            Some(Wish { capacity, from: 3 })
+            Ok(wish)
         } else {
-            None
+            Err(wish)
         }
     } else {
-        Some(Wish {
+        Ok(Wish {
             capacity: usual_capacity(),
             from: 1,
         })

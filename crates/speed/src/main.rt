@@ -21,11 +21,9 @@ type Line = [u8; 45];
 
 // The figure of eight digits that stands at a place of a line. Whatever is no digit counts as 0.
 fn figure(line: &Line, at: usize) -> u32 {
-    let digits = line.map(|byte| match byte {
-        b'0'..=b'9' | b'a'..=b'f' => byte,
-        _ => b'0',
-    });
-    words::read(&digits, at).unwrap_or(0)
+    match words::read(line, at) {
+        Ok(bits) | Err(bits) => bits,
+    }
 }
 
 // What the part that is asked for makes of frames of that size.

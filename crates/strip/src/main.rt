@@ -78,7 +78,7 @@ fn asked(rt: &HostRuntime) -> Option<Wish> {
     let mut second = io::buffer();
     let n = outside::word(rt, 1, &mut first);
     let m = outside::word(rt, 2, &mut second);
-    ring_asked(&first[..n], &second[..m])
+    ring_asked(&first[..n], &second[..m]).ok()
 }
 
 fn main(rt: HostRuntime) {

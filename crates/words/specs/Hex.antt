@@ -1,6 +1,6 @@
 -- Eight lower-case hexadecimal digits as a number, at a place of a line. The digits of a number are the kit's own `digits 16 8`.
 -- Definitions only.
-use Rattle.std.specs.Prelude.{Bool, true, false, cond, ◌&&◌, List, ℕ, ◌+◌, ◌-◌, ◌*◌, leb, ltb, length, get_or, Option, Some, None}
+use Rattle.std.specs.Prelude.{Bool, true, false, cond, ◌&&◌, List, ℕ, ◌+◌, ◌-◌, ◌*◌, leb, ltb, length, get_or, Option, Some, None, Result, Ok, Err}
 use Rattle.std.proofs.Math.Seq.{paste}
 use Rattle.io.specs.Digits.{last_digits}
 
@@ -14,12 +14,13 @@ pub record Word : Type 0 where
   pub ok : Bool
   pub bits : ℕ
 
--- what a digit is worth, and what a word's number is, where it is one
+-- what a digit is worth, where it is one
 abbrev pub worth_of : Digit → Option ℕ
 worth_of d = cond d.ok (Some d.value) None
 
-abbrev pub number_of : Word → Option ℕ
-number_of w = cond w.ok (Some w.bits) None
+-- the number that a word makes: Ok where all of it are digits, and otherwise Err
+abbrev pub number_of : Word → Result ℕ ℕ
+number_of w = cond w.ok (Ok w.bits) (Err w.bits)
 
 -- "0" to "9", which are the bytes 48 to 57, are worth 0 to 9; "a" to "f", which are 97 to 102, are worth 10 to 15; no other byte is a digit
 unfoldable pub digit_of : ℕ → Digit

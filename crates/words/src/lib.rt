@@ -5,7 +5,7 @@
 
 ghost use Rattle.std.specs.Prelude.{◌≡◌, ◌+◌, ◌<◌, ◌≤◌, length, IfSome};
 ghost use Rattle.io.specs.Digits.{hex_digit_ascii as Digits·glyph, last_digits};
-ghost use Rattle.words.specs.Hex.{worth_of, number_of, digit_of, half_at, word_at, read_at, fits, put_at};
+ghost use Rattle.words.specs.Hex.{worth_of, number_of, digit_of, half_at, read_at, fits, put_at};
 
 // How many digits a figure has.
 const DIGITS: usize = 8;
@@ -23,29 +23,42 @@ fn read_digit(byte: u8) -> Option<u32>
     }
 }
 
-// The number whose four digits stand at a place of a line, where they are all digits.
-#[tactic(auto, unfolding(crate::specs::Hex::half_at))]
-fn read_half(line: &[u8], at: usize) -> Option<u32>
-    requires { at + 4 ≤ length line.now }
-    ensures value { result ≡ number_of (half_at line.now at) }
-    ensures bits_bound { IfSome result (λ bits. bits < 65536) }
+// Whether a byte is such a digit.
+fn is_digit(byte: u8) -> bool
+    ensures { result ≡ (digit_of byte).ok }
 {
-    let a = read_digit(line[at])?;
-    let b = read_digit(line[at + 1])?;
-    let c = read_digit(line[at + 2])?;
-    let d = read_digit(line[at + 3])?;
-    Some(a * 4096 + b * 256 + c * 16 + d)
+    read_digit(byte).is_some()
 }
 
-// The number whose eight digits stand at a place of a line, where they are all digits.
-#[tactic(auto, unfolding(crate::specs::Hex::word_at))]
-fn read_word(line: &[u8], at: usize) -> Option<u32>
-    requires { at + 8 ≤ length line.now }
-    ensures { result ≡ number_of (word_at line.now at) }
+// What a byte counts for: 0 where it is no digit.
+fn worth(byte: u8) -> u32
+    ensures value { result ≡ (digit_of byte).value }
+    ensures upper_bound { result < 16 }
 {
-    let high = read_half(line, at)?;
-    let low = read_half(line, at + 4)?;
-    Some(high * 65536 + low)
+    read_digit(byte).unwrap_or(0)
+}
+
+// Whether the four bytes at a place of a line are digits.
+#[tactic(auto, unfolding(crate::specs::Hex::half_at))]
+fn are_digits(line: &[u8], at: usize) -> bool
+    requires { at + 4 ≤ length line.now }
+    ensures { result ≡ (half_at line.now at).ok }
+{
+    is_digit(line[at]) & is_digit(line[at + 1]) & is_digit(line[at + 2]) & is_digit(line[at + 3])
+}
+
+// The number that the four bytes at a place of a line make.
+#[tactic(auto, unfolding(crate::specs::Hex::half_at))]
+fn half(line: &[u8], at: usize) -> u32
+    requires { at + 4 ≤ length line.now }
+    ensures value { result ≡ (half_at line.now at).bits }
+    ensures upper_bound { result < 65536 }
+{
+    let a = worth(line[at]);
+    let b = worth(line[at + 1]);
+    let c = worth(line[at + 2]);
+    let d = worth(line[at + 3]);
+    a * 4096 + b * 256 + c * 16 + d
 }
 
 // Whether eight bytes from a place on lie within so many.
@@ -55,15 +68,20 @@ fn is_room(n: usize, at: usize) -> bool
     n >= DIGITS && at <= n - 8
 }
 
-// The number whose eight digits stand at a place of a line. There is none where the line ends before, or has another byte there.
-#[tactic(auto, unfolding(crate::specs::Hex::read_at))]
-pub fn read(line: &[u8], at: usize) -> Option<u32>
+// The number whose eight digits stand at a place of a line. Where not all of them are digits, it is an Err, and whatever is no
+// digit counts as 0; where the line ends before, an Err of 0.
+#[tactic(auto, unfolding(crate::specs::Hex::read_at, crate::specs::Hex::word_at))]
+pub fn read(line: &[u8], at: usize) -> Result<u32, u32>
     ensures { result ≡ number_of (read_at line.now at) }
 {
-    if is_room(line.len(), at) {
-        read_word(line, at)
+    if !is_room(line.len(), at) {
+        return Err(0);
+    }
+    let bits = half(line, at) * 65536 + half(line, at + 4);
+    if are_digits(line, at) & are_digits(line, at + 4) {
+        Ok(bits)
     } else {
-        None
+        Err(bits)
     }
 }
 
