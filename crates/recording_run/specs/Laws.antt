@@ -5,3 +5,4 @@ pub mod Told
 pub mod Answer
 pub mod Begun
 pub mod Gaps
+pub mod Outcome

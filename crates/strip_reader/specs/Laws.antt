@@ -3,3 +3,4 @@ pub mod Steps
 pub mod Pieces
 pub mod Whole
 pub mod Telling
+pub mod Outcome

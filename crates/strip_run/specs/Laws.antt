@@ -5,3 +5,4 @@ pub mod Reply
 pub mod Versions
 pub mod Gaps
 pub mod Carried
+pub mod Outcome

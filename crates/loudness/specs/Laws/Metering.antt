@@ -1,7 +1,7 @@
 -- What is written of a metering: its bytes where nothing is refused and they fit, and nothing where it is refused. Laws.
 -- Assumes nothing.
-use Rattle.std.specs.Prelude.{◌≡◌, refl, true, false, List, ◌++◌, ℕ, ◌≤◌, ◌<◌, length, drop}
-use Rattle.std.proofs.Common.{ap, ne_eqb}
+use Rattle.std.specs.Prelude.{◌≡◌, refl, true, false, List, ◌++◌, ℕ, ◌/◌, ◌≤◌, ◌<◌, length, drop}
+use Rattle.std.proofs.Common.{◌∙◌, ap, arith, ne_eqb}
 use Rattle.units.specs.Replies.{done, bad_shape, no_room, refusal}
 use Rattle.units.specs.Output.{put}
 use Rattle.wav_format.specs.Bytes.{little}
@@ -9,6 +9,13 @@ use Rattle.wav_format.specs.Laws.Bytes.{little_length, stored, Begun, puts, put_
 use borrow.Rule.Slice.PartMut.{put_mid}
 use Rattle.loudness.specs.Sound.{Loud, is_sizes, loudness_of}
 use Rattle.loudness.specs.Metering.{put_loudness, put_format}
+
+-- Eight bytes of a number are four of it and four of what is above them.
+pub eight : (n : ℕ) → little 8 n ≡ little 4 n ++ little 4 (n / 4294967296)
+unfolding little
+eight n =
+    let above : n / 256 / 256 / 256 / 256 ≡ n / 4294967296 = omega arith in
+    rw above
 
 -- Three numbers of four bytes have twelve, and so have one of eight and one of four.
 pub twelve : (a b c : ℕ) → length (little 4 a ++ little 4 b ++ little 4 c) ≡ 12
@@ -48,6 +55,13 @@ module _ (bytes : List ℕ) (channels samples : ℕ) (out : List ℕ) (heard : L
   unfolding put_loudness
   loudness_written d h =
       rw (← e, d) (put_fits 12 (little 8 heard.square ++ little 4 heard.peak) out (eight_and_four heard.square heard.peak) h)
+
+  -- the same with the square as two numbers of four bytes
+  pub loudness_in_fours : heard.reply ≡ done → 12 ≤ length out
+      → put_loudness bytes channels samples out
+      ≡ record { reply = done; out = little 4 heard.square ++ little 4 (heard.square / 4294967296) ++ little 4 heard.peak ++ drop 12 out }
+  loudness_in_fours d h =
+      loudness_written d h ∙ ap (λ (xs : List ℕ). record { reply = done; out = xs ++ little 4 heard.peak ++ drop 12 out }) (eight heard.square)
 
   pub loudness_short : heard.reply ≡ done → length out < 12 → put_loudness bytes channels samples out ≡ record { reply = no_room; out = out }
   unfolding put_loudness
