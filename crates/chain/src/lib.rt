@@ -183,6 +183,8 @@ impl Chain {
 
     // Whether a handed-in chain passes: each part does, they are alike in threshold and settings, and the
     // initial headroom is 20.
+    // Written into its callers, it copies no chain.
+    #[inline(always)]
     pub fn passes(self) -> bool
         ensures { result ≡ passes self }
     {
@@ -203,6 +205,8 @@ impl Chain {
     }
 
     // The chain itself, where it passes; otherwise it is refused with 4.
+    // Written into its callers, it copies no chain.
+    #[inline(always)]
     #[tactic(auto, unfolding(units::specs::Handed::handed, units::specs::Replies::refusal))]
     fn passed(self) -> Result<Chain, Refusal>
         ensures { result ≡ handed (refusal true (passes self) true true) self }

@@ -1,6 +1,8 @@
 // What was found in every fourth sample each, since the machine takes four samples at a time.
 
-ghost use Rattle.std.specs.Prelude.{◌≡◌, ◌*◌, ◌≤◌, ◌<◌, ◌+◌, length, drop};
+ghost use Rattle.std.specs.Prelude.{◌≡◌, ◌*◌, ◌≤◌, ◌<◌, ◌+◌, ◌-◌, ◌++◌, length, drop};
+ghost use lib.ListN.{replicate};
+ghost use Rattle.floats.specs.Laws.Kinds.{nought};
 
 use std::simd::prelude::*;
 
@@ -11,6 +13,20 @@ pub(crate) struct Lanes {
     pub(crate) low: f32x4,
     pub(crate) sum: f32x4,
     ghost whole: { (length high ≡ 4) × (length low ≡ 4) × (length sum ≡ 4) },
+}
+
+// At most three samples, filled up with zeros to four. They are not copied to an array of zeros: a load of all four would wait
+// for the stores of the few.
+fn filled(some: &[f32]) -> [f32; 4]
+    requires { length some.now < 4 }
+    ensures { result ≡ some.now ++ replicate (4 - length some.now) nought }
+{
+    match some {
+        [x] => [*x, 0.0, 0.0, 0.0],
+        [x, y] => [*x, *y, 0.0, 0.0],
+        [x, y, z] => [*x, *y, *z, 0.0],
+        _ => [0.0; 4],
+    }
 }
 
 impl Lanes {
@@ -54,9 +70,7 @@ impl Lanes {
         if rest.is_empty() {
             found
         } else {
-            let mut last = [0.0; 4];
-            last[..rest.len()].copy_from_slice(rest);
-            found.raise_by_four(&last)
+            found.raise_by_four(&filled(rest))
         }
     }
 

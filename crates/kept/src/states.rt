@@ -170,6 +170,8 @@ impl KeptLimiter {
     }
 
     // The state itself, where each number that stands for a flag is one; otherwise it is refused with 4.
+    // Written into its callers, it copies no state.
+    #[inline(always)]
     #[tactic(auto, unfolding(units::specs::Handed::handed, units::specs::Replies::refusal))]
     pub(crate) fn sound(self) -> Result<KeptLimiter, Refusal>
         ensures { result ≡ handed (refusal true (sound_limiter self) true true) self }
@@ -250,6 +252,8 @@ impl KeptChain {
     }
 
     // The state itself, where each number that stands for a flag is one; otherwise it is refused with 4.
+    // Written into its callers, it copies no state.
+    #[inline(always)]
     #[tactic(auto, unfolding(units::specs::Handed::handed, units::specs::Replies::refusal))]
     pub(crate) fn sound(self) -> Result<KeptChain, Refusal>
         ensures { result ≡ handed (refusal true (sound_chain self) true true) self }

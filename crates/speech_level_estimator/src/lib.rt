@@ -193,6 +193,8 @@ impl Estimator {
 
     // Whether a handed-in state passes: settings, threshold and published level in their ranges, the
     // starting level that the settings give, a run no longer than the threshold, and two averages that pass.
+    // Written into its callers, as `update` is.
+    #[inline(always)]
     #[tactic(auto, unfolding(crate::specs::Estimator::passes))]
     pub fn passes(self) -> bool
         ensures { result ≡ passes_estimator self }
@@ -221,6 +223,8 @@ impl Estimator {
     // Takes a frame's level and its probability, which is its weight. A speech frame advances the
     // preliminary state, and from the threshold on the level is published; any other frame keeps the run
     // or throws it away. Refused with 4 or 2.
+    // Written into its callers: where it is not, one that calls it again and again tests the settings each time.
+    #[inline(always)]
     #[tactic(auto, unfolding(crate::specs::Calls::stepped, units::specs::Handed::handed, units::specs::Replies::refusal))]
     pub fn update(self, rms: Dbfs, probability: f32) -> Result<Estimator, Refusal>
         ensures { result ≡ handed (stepped self rms.0 probability).reply (stepped self rms.0 probability).estimator }

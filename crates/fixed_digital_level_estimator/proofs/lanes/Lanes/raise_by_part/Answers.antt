@@ -3,7 +3,7 @@ use Rattle.std.proofs.Common.{◌-◌, sym, ap, ◌∙◌, arith, length, eqb-tr
 use lib.Ieee.{Float}
 use mathlib.Core.List.{List}
 use Rattle.fixed_digital_level_estimator.specs.Lanes.{lanes_of}
-use Rattle.fixed_digital_level_estimator.proofs.Blocks.{Passed, none_passed, one_passed, blocks_end, nothing_left, zeros_left, last_block}
+use Rattle.fixed_digital_level_estimator.proofs.Blocks.{Passed, none_passed, one_passed, blocks_end, nothing_left, last_block}
 use Rattle.fixed_digital_level_estimator.proofs.lanes.Lanes.raise_by_part.Goals as goal
 
 pub loop-block-init : goal.loop-block-init
@@ -30,4 +30,4 @@ returns-else-is_empty c =
     let passed = blocks_end _ _ _ _ known.1 (omega (arith, c.in-None.ensures.steps.1.0, known.0)) in
     let left : Passed (lanes_of c.args.self) c.args.part.now c.remainder-rest.result.now (lanes_of c.loop-block.found) = rw rest passed in
     last_block _ _ _ _ _ (4 - length c.remainder-rest.result.now) left
-    (rw (c.copy_from_slice.ensures.after, zeros_left (length c.remainder-rest.result.now)) at c.raise_by_four.ensures)
+    (rw c.filled.ensures at c.raise_by_four.ensures)
