@@ -79,8 +79,8 @@ pub extern "C" fn murzicanu_chain_step(
 {
     match take_frame(*chain, *figures, frame, channels, samples) {
         Ok(next) => {
-            *chain = next.chain;
             *answer = next.answer;
+            *chain = next.chain;
             DONE
         }
         Err(refusal) => {

@@ -4,8 +4,6 @@ ghost use Rattle.std.specs.Prelude.{◌≡◌};
 ghost use Rattle.units.specs.Replies.{refusal};
 ghost use Rattle.units.specs.Handed.{number_of, handed};
 
-use std::fmt;
-
 // Why a call is refused. What it was lent stays as it was.
 #[derive(Clone, Copy, Debug, PartialEq, Eq, Hash)]
 pub enum Refusal {
@@ -35,13 +33,6 @@ impl Refusal {
         ensures { result ≡ number_of self }
     {
         self as u32
-    }
-}
-
-// The number alone, as the programs print it.
-impl fmt::Display for Refusal {
-    fn fmt<W: fmt::Write>(&self, f: &mut fmt::Formatter<W>) -> fmt::Result {
-        write!(f, "{}", self.number())
     }
 }
 
