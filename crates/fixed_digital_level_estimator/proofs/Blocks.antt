@@ -78,17 +78,6 @@ without_zeros l r xs k h =
           };
     }
 
-pub zeros_left : (k : ℕ) → drop k (replicate 4 nought) ≡ replicate (4 - k) nought
-zeros_left zero = refl
-zeros_left (suc zero) = refl
-zeros_left (suc (suc zero)) = refl
-zeros_left (suc (suc (suc zero))) = refl
-zeros_left (suc (suc (suc (suc k)))) = let e : 4 - suc (suc (suc (suc k))) ≡ 0 = omega arith in rw e (at_end k)
-  where
-    at_end : (k : ℕ) → drop (suc (suc (suc (suc k)))) (replicate 4 nought) ≡ []
-    at_end zero = refl
-    at_end (suc k) = refl
-
 -- what is left, filled up with zeros, has raised them too
 pub last_block : (l m r : Lanes) (part rest : List Float) (k : ℕ) → Passed l part rest m → Raised m (rest ++ replicate k nought) r → Raised l part r
 last_block l m r part rest k p h =

@@ -223,7 +223,7 @@ impl Estimator {
     // Takes a frame's level and its probability, which is its weight. A speech frame advances the
     // preliminary state, and from the threshold on the level is published; any other frame keeps the run
     // or throws it away. Refused with 4 or 2.
-    // Written into its callers: where it is not, one that calls it again and again tests the settings each time.
+    // Written into its callers: otherwise a caller that calls it again and again tests the settings each time.
     #[inline(always)]
     #[tactic(auto, unfolding(crate::specs::Calls::stepped, units::specs::Handed::handed, units::specs::Replies::refusal))]
     pub fn update(self, rms: Dbfs, probability: f32) -> Result<Estimator, Refusal>

@@ -18,7 +18,7 @@ pub record Word : Type 0 where
 abbrev pub worth_of : Digit → Option ℕ
 worth_of d = cond d.ok (Some d.value) None
 
--- the number that a word makes: Ok where all of it are digits, and otherwise Err
+-- the number that a word makes: Ok where all its bytes are digits, and otherwise Err
 abbrev pub number_of : Word → Result ℕ ℕ
 number_of w = cond w.ok (Ok w.bits) (Err w.bits)
 

@@ -55,19 +55,19 @@ module _ (c : Chain) (f : Figures) (frame : List Float) (channels samples : ℕ)
   pub frame_one : (x y : List Float) → x ≡ (called c f frame channels samples).frame → y ≡ (called c f frame channels samples).frame → x ≡ y
   frame_one x y p q = one_outcome x y p q
 
--- and so do that of `gap`, of what is said of it
+-- and so does that of `gap`, in its definition,
 pub gap_one : (c : Chain) (g h : Gapped) → g ≡ gap c → h ≡ gap c → g ≡ h
 gap_one c g h p q = one_outcome g h p q
 
--- and of what it hands back,
+-- and in what is handed back;
 pub gap_handed_one : (c : Chain) (g h : Result Chain Refusal) → g ≡ handed (gap c).reply (gap c).chain → h ≡ handed (gap c).reply (gap c).chain → g ≡ h
 gap_handed_one c g h p q = one_outcome g h p q
 
--- and that of `new`, of what is said of it
+-- and so does that of `new`, in its definition,
 pub made_one : (s : Set) (t samples capacity : ℕ) (m n : Made) → m ≡ made s t samples capacity → n ≡ made s t samples capacity → m ≡ n
 made_one s t samples capacity m n p q = one_outcome m n p q
 
--- and of what it hands back.
+-- and in what is handed back.
 pub made_handed_one : (s : Set) (t samples capacity : ℕ) (m n : Result Chain Refusal)
     → m ≡ handed (made s t samples capacity).reply (made s t samples capacity).chain
     → n ≡ handed (made s t samples capacity).reply (made s t samples capacity).chain

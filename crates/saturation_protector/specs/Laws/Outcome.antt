@@ -1,4 +1,4 @@
--- What the promises are worth: each is an equation of the whole answer, so it leaves one outcome. A law.
+-- What the promises are worth: each is an equation of the whole answer, so it leaves one outcome. Laws.
 -- Assumes nothing.
 use Rattle.std.specs.Prelude.{◌≡◌, ℕ, Float}
 use Rattle.lists.specs.Promise.{one_outcome}

@@ -1,4 +1,4 @@
--- What the promises of the calls are worth that speak through `Seen`: what is seen of an answer determines it. Laws.
+-- What the promises that speak through `Seen` are worth: each leaves one outcome. Laws.
 -- Assumes nothing.
 use Rattle.std.specs.Prelude.{◌≡◌, refl, ℕ, ◌≤◌, Bool, List, length, Option, None, Some, Result, Ok, Err}
 use Rattle.std.proofs.Common.{sym, ◌∙◌, ap, arith}

@@ -1,4 +1,4 @@
--- What the promises are worth: each is an equation of the whole answer, so it leaves one outcome. Laws.
+-- What the promises are worth: each is an equation of the whole answer, or of what is told of it, which determines it; so it leaves one outcome. Laws.
 -- Assumes nothing.
 use Rattle.std.specs.Prelude.{◌≡◌, refl, List, [], ◌∷◌, ℕ, Option, None, Some, Result, Ok, Err}
 use Rattle.std.proofs.Common.{sym, ap, arith}

@@ -21,6 +21,5 @@ worth_or_0 : (byte : ℕ) → unwrap_or (worth_of (digit_of byte)) 0 ≡ (digit_
 unfolding digit_of
 worth_or_0 byte = chosen (ltb byte 48) (leb byte 57) (ltb byte 97) (leb byte 102) (byte - 48) (byte - 87)
 
--- src/lib.rt:34:1
 pub returns-clause-value : goal.returns-clause-value
 returns-clause-value c = c.unwrap_or.ensures ∙ ap (λ (o : Option ℕ). unwrap_or o 0) c.read_digit.ensures.value ∙ worth_or_0 c.args.byte
