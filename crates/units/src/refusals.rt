@@ -4,6 +4,8 @@ ghost use Rattle.std.specs.Prelude.{◌≡◌};
 ghost use Rattle.units.specs.Replies.{refusal};
 ghost use Rattle.units.specs.Handed.{number_of, handed};
 
+use std::fmt;
+
 // Why a call is refused. What it was lent stays as it was.
 #[derive(Clone, Copy, Debug, PartialEq, Eq, Hash)]
 pub enum Refusal {
@@ -36,6 +38,17 @@ impl Refusal {
     }
 }
 
+// The number alone, in decimal digits.
+impl fmt::Display for Refusal {
+    ghost use Rattle.std.specs.Prelude.{Some, decimal};
+
+    ghost output = { λ refusal. Some (decimal (number_of refusal)) };
+
+    fn fmt<W: fmt::Write>(&self, f: &mut fmt::Formatter<W>) -> fmt::Result {
+        write!(f, "{}", self.number())
+    }
+}
+
 // Refuses with the first that applies, in the order 1, 4, 2, 3, where each argument says that its kind of input is as it
 // should be.
 #[tactic(auto, unfolding(crate::specs::Replies::refusal, crate::specs::Handed::handed, crate::specs::Handed::refusal_of))]
@@ -51,6 +64,32 @@ pub fn check(shape: bool, setting: bool, figure: bool, sample: bool) -> Result<(
     } else if !sample {
         Err(Refusal::Sample)
     } else {
+        Ok(())
+    }
+}
+
+#[cfg(test)]
+mod tests {
+    use super::*;
+    use std::test::Fail;
+
+    // The numbers are those of documents 01 and 02.
+    #[test]
+    fn a_refusal_prints_its_number(rt: HostRuntime) -> Result<(), Fail> {
+        for (refusal, number) in [
+            (Refusal::Shape, "1"),
+            (Refusal::Figure, "2"),
+            (Refusal::Sample, "3"),
+            (Refusal::Setting, "4"),
+            (Refusal::Cut, "5"),
+            (Refusal::Length, "6"),
+            (Refusal::Version, "7"),
+            (Refusal::Room, "8"),
+            (Refusal::Unsaid, "9"),
+        ] {
+            let printed = refusal.to_string(rt.alloc())?;
+            assert_eq!(rt; printed.as_str(), number);
+        }
         Ok(())
     }
 }
